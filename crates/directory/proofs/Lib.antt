@@ -1,0 +1,4 @@
+pub mod ShortLists
+pub mod Zones
+pub mod Soundness
+pub mod Loops

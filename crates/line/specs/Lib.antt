@@ -1,0 +1,5 @@
+pub mod Outcomes
+pub mod Requested
+pub mod Received
+pub mod LetGo
+pub mod Questions

@@ -1,0 +1,5 @@
+pub mod Refusals
+pub mod Assignments
+pub mod Answers
+pub mod Central
+pub mod Kinds
