@@ -41,6 +41,8 @@ impl Assignment {
 #[cfg(test)]
 mod tests {
     use super::*;
+    use crate::refusals::RefusalDebug;
+    use crate::refusals::RefusalPartialEq;
     use std::test::*;
 
     #[test]
