@@ -1,0 +1,11 @@
+pub mod Faults
+pub mod Model
+pub mod Sending
+pub mod Zones
+pub mod Directories
+pub mod Questions
+pub mod Outcomes
+pub mod Runs
+pub mod Onlookers
+pub mod Opening
+pub mod Law

@@ -1,0 +1,4 @@
+pub mod System
+pub mod Steps
+pub mod Coherent
+pub mod Crossings

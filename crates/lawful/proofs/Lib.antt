@@ -1,0 +1,15 @@
+pub mod Projections
+pub mod Numbers
+pub mod Waits
+pub mod Keys
+pub mod Tables
+pub mod Lanes
+pub mod Refusals
+pub mod Systems
+pub mod Invariant
+pub mod ZoneSteps
+pub mod Starts
+pub mod DirectorySteps
+pub mod Calls
+pub mod Openings
+pub mod Lawful

@@ -1,0 +1,5 @@
+use Rattle.transport.proofs.BeltLanes.{lanes-none}
+use Rattle.transport.proofs.store.Store.clear.Needs as need
+
+pub returns : need.returns
+returns c = lanes-none
