@@ -13,3 +13,4 @@ pub mod DirectorySteps
 pub mod Calls
 pub mod Openings
 pub mod Lawful
+pub mod Meanings
