@@ -24,7 +24,7 @@ use Rattle.directory.specs.Arrivals.{toNobody}
 use Rattle.directory.specs.TakeUp.{asks, asDown}
 use Rattle.coherence.specs.System.{System, at}
 use Rattle.coherence.specs.Steps.{sentDown, centralServing, pendingServed, afterDirectory}
-use Rattle.coherence.specs.Coherent.{Awaits}
+use Rattle.coherence.specs.Coherent.{Unsettled}
 use Rattle.coherence.proofs.Views.{anAsk, aReply}
 use Rattle.coherence.proofs.Zones.{same, clash-some, everywhere}
 use Rattle.coherence.proofs.Invariant.{Inv}
@@ -56,7 +56,7 @@ asked-each s xs y f = go (ltb y 8) refl
 -- it is not refused, and settles only a request that is accepted and not settled
 pub data Kept (s : System) : Outcome → Type 0 where
   kept : {to : List (Option Down)} {x : Option ℕ} {d : Directory} →
-      Inv (afterDirectory s to x d) → ((y : ℕ) → x ≡ Some y → Awaits s y) → Kept s (went to x d)
+      Inv (afterDirectory s to x d) → ((y : ℕ) → x ≡ Some y → Unsettled s y) → Kept s (went to x d)
 
 abbrev pub withDirectory : System → Directory → System
 withDirectory s d = record { central = s .central; dir = d; up = s .up; down = s .down; line = s .line; pending = s .pending }
@@ -88,7 +88,7 @@ replied s x m d =
       pending = at x (pendingServed (s .pending x) (s .central)) (s .pending);
     }
 
-pub kept-replying : (s : System) (x : ℕ) (m : Reply) (d : Directory) → ltb x 8 ≡ true → Awaits s x → Inv (replied s x m d) →
+pub kept-replying : (s : System) (x : ℕ) (m : Reply) (d : Directory) → ltb x 8 ≡ true → Unsettled s x → Inv (replied s x m d) →
     Kept s (went (onlyTo x (down.Reply m)) (Some x) d)
 kept-replying s x m d t w i =
     kept

@@ -27,7 +27,7 @@ use Rattle.directory.specs.Directory as directory
 use Rattle.directory.specs.Serving.{askOfListed, awaitsAny}
 use Rattle.coherence.specs.System.{System, Pending, free, settled}
 use Rattle.coherence.specs.Steps.{takenFrom}
-use Rattle.coherence.specs.Coherent.{Awaits, Safe, Coherent}
+use Rattle.coherence.specs.Coherent.{Unsettled, Safe, Coherent}
 use Rattle.coherence.proofs.Views.{Role, Standing, idle, View, view, done, Waits, bare, with-copy, exclusive, owned-alone, owned, unowned, unasked, by-invalid, by-bare, Case, uncopied, asking-bare, asking-lost, holding, asking-held, answered-away, answered-held, stale, Link}
 use Rattle.coherence.proofs.Zone.{Struck, link-struck}
 use Rattle.coherence.proofs.Local.{Taken, ended, received-fits, Started, waits, sent, read, wrote, reported, requested-fits, waiting-refuses}
@@ -112,10 +112,10 @@ ended-kept : {c : Option Assignment} {w : View} {d : List Kind} {p : Pending} {u
     Taken c w d p (line.moved u (Some a) l) → (r : Request) × (p ≡ settled r a)
 ended-kept (ended {r = r} b) = (r, refl)
 
-settles : {s : System} {to : List (Option Down)} {x : ℕ} {d : Directory} → Kept s (directory.went to (Some x) d) → Awaits s x
+settles : {s : System} {to : List (Option Down)} {x : ℕ} {d : Directory} → Kept s (directory.went to (Some x) d) → Unsettled s x
 settles {x = x} (kept i f) = f x refl
 
-take-up-settles : {s : System} {to : List (Option Down)} {x : ℕ} {d : Directory} → TakenUp s (directory.went to (Some x) d) → Awaits s x
+take-up-settles : {s : System} {to : List (Option Down)} {x : ℕ} {d : Directory} → TakenUp s (directory.went to (Some x) d) → Unsettled s x
 take-up-settles (taken k) = settles k
 
 -- ── refusals ──

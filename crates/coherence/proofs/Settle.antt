@@ -26,7 +26,7 @@ use Rattle.directory.specs.Arrivals.{toNobody}
 use Rattle.directory.specs.TakeUp.{wantsData}
 use Rattle.coherence.specs.System.{System, Pending, accepted}
 use Rattle.coherence.specs.Steps.{centralServing, pendingServed}
-use Rattle.coherence.specs.Coherent.{Awaits}
+use Rattle.coherence.specs.Coherent.{Unsettled}
 use Rattle.coherence.proofs.Views.{aReply, Role, absent, Standing, idle, serving, view, Link}
 use Rattle.coherence.proofs.Zone.{Ends, link-ends, link-accepted, link-for, SentFor, to-read, ends-empty, struck, link-struck}
 use Rattle.coherence.proofs.Zones.{same, beyond-apart, everywhere, Apart, equal, apart, compare-zones, none-else}
@@ -119,7 +119,7 @@ module _ (t : System) (xs : List ℕ) (ws : List Waiting) (s : Served)
   ends-in : without (s .zone) xs ≡ [] → roleIn (listAfter s xs) None (s .zone) ≡ roleAfter (s .demand) (replyOf s)
   ends-in n = own-role (s .demand) (s .«was_listed») (t .central) (s .found) (s .«owner_purged») (s .zone) xs (all-came n)
 
-  pub requester-accepted : Awaits t (s .zone)
+  pub requester-accepted : Unsettled t (s .zone)
   requester-accepted = accepted-link (own-unasked xs s) (served-stands s ws (h .unqueued)) (linked (s .zone))
 
   pub end-keeps : without (s .zone) xs ≡ [] → Kept t (ended s xs ws)

@@ -27,8 +27,8 @@ use Rattle.coherence.specs.System.{System, free, accepted, settled}
 use Rattle.coherence.specs.Steps.{Run}
 
 -- a zone's request is accepted and not settled
-abbrev pub Awaits : System → ℕ → Type 0
-Awaits s x = (r : Request) × (s .pending x ≡ accepted r)
+abbrev pub Unsettled : System → ℕ → Type 0
+Unsettled s x = (r : Request) × (s .pending x ≡ accepted r)
 
 pub record Safe (s : System) : Type 0 where
   -- what a zone can read is what the central pool holds
@@ -47,8 +47,8 @@ pub record Safe (s : System) : Type 0 where
       s .down z ≡ m ∷ rest → received (s .line z) m ≡ line.moved sent (Some a) l → (r : Request) × (s .pending z ≡ settled r a)
   -- a request that a step of the directory settles was accepted and not settled
   pub delivery-settles-once : (z : ℕ) (m : Kind) (rest : List Kind) (to : List (Option Down)) (x : ℕ) (d : Directory) →
-      s .up z ≡ m ∷ rest → delivered m z (s .dir) ≡ directory.went to (Some x) d → Awaits s x
-  pub take-up-settles-once : (to : List (Option Down)) (x : ℕ) (d : Directory) → takenUp (s .dir) ≡ directory.went to (Some x) d → Awaits s x
+      s .up z ≡ m ∷ rest → delivered m z (s .dir) ≡ directory.went to (Some x) d → Unsettled s x
+  pub take-up-settles-once : (to : List (Option Down)) (x : ℕ) (d : Directory) → takenUp (s .dir) ≡ directory.went to (Some x) d → Unsettled s x
   -- no delivery is refused, and no take-up with 17
   pub down-is-taken : (z : ℕ) (m : Kind) (rest : List Kind) (n : ℕ) (l : State) → s .down z ≡ m ∷ rest → received (s .line z) m ≡ line.refused n l → ⊥
   pub up-is-taken : (z : ℕ) (m : Kind) (rest : List Kind) (n : ℕ) (d : Directory) → s .up z ≡ m ∷ rest → delivered m z (s .dir) ≡ directory.refused n d → ⊥

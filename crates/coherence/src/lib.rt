@@ -10,11 +10,11 @@ pub fn every_run_is_coherent() -> bool
     ensures coherent { λ _. ⌜ Coherent ⌝ }
     ensures crossings { λ _. ⌜ CrossingsAreReached ⌝ }
 {
-    the_theorem();
+    one_key_is_coherent();
     true
 }
 
-fn the_theorem()
+fn one_key_is_coherent()
     ensures coherent { λ _. ⌜ Coherent ⌝ }
     ensures crossings { λ _. ⌜ CrossingsAreReached ⌝ }
 {
