@@ -32,7 +32,6 @@ use Rattle.coherence.specs.System.{System, Pending, free, at}
 use Rattle.coherence.specs.System as one
 use Rattle.coherence.specs.Steps.{afterDirectory, takenFrom, centralServing, pendingServed}
 use Rattle.coherence.specs.Steps as steps
-use Rattle.coherence.specs.Coherent.{Awaits}
 use Rattle.coherence.proofs.Invariant.{Inv}
 use Rattle.coherence.proofs.Same.{inv-same}
 use Rattle.coherence.proofs.Runs.{up-keeps, serving-keeps}
