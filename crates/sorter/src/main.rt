@@ -8,9 +8,11 @@ mod words;
 mod zones;
 
 use cases::marked_cases;
+use coherence::every_run_is_coherent;
 use faults::Fault;
 use faults::FaultDebug;
 use faults::FaultFromIo;
+use lawful::every_run_is_lawful;
 use messages::requests::AnswerPartialEq;
 use scenes::run;
 use transport::belt::Belt;
@@ -33,5 +35,8 @@ fn work(rt: &LibcRuntime) -> Result<(), Fault> {
     println!(rt, "== both backplanes gave the same {} answers", over_rings.answers.len())?;
     shift::report(rt, over_rings.zones)?;
     println!(rt, "== {} worked cases at the limits of the rules are proved", marked_cases())?;
+    if every_run_is_coherent() && every_run_is_lawful() {
+        println!(rt, "== proved: one key is coherent in every run, and every run of the pool's model obeys the law")?;
+    }
     Ok(())
 }
