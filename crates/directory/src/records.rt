@@ -5,6 +5,7 @@ ghost use Rattle.directory.specs.Sound.{sound};
 
 use crate::rows::Row;
 
+mod questions;
 mod steps;
 
 // A row that is sound. It arises fresh, by loading, by steps, or from a row after a check.

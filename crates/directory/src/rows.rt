@@ -5,6 +5,7 @@ use messages::kinds::Demand;
 use messages::kinds::Outgoing;
 
 mod arriving;
+mod asking;
 mod checking;
 mod making;
 mod serving;

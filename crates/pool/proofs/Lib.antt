@@ -1,0 +1,11 @@
+pub mod Places
+pub mod Rows
+pub mod Sendings
+pub mod Turns
+pub mod Tidiness
+pub mod Openings
+pub mod Loads
+pub mod Models
+pub mod Asking
+pub mod Ties
+pub mod Wholes

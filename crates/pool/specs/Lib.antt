@@ -1,0 +1,9 @@
+pub mod Rows
+pub mod Acts
+pub mod Tidy
+pub mod Pools
+pub mod Changes
+pub mod Stocks
+pub mod Laws
+pub mod Questions
+pub mod Whole
