@@ -1,7 +1,9 @@
 // Three zones and the directory run a small scenario over each backplane, and a shift report follows.
+// Then the pool runs a morning of four zones.
 mod bench;
 mod central;
 mod faults;
+mod morning;
 mod scenes;
 mod shift;
 mod words;
@@ -34,9 +36,18 @@ fn work(rt: &LibcRuntime) -> Result<(), Fault> {
     }
     println!(rt, "== both backplanes gave the same {} answers", over_rings.answers.len())?;
     shift::report(rt, over_rings.zones)?;
-    println!(rt, "== {} worked cases at the limits of the rules are proved", marked_cases())?;
-    if every_run_is_coherent() && every_run_is_lawful() {
-        println!(rt, "== proved: one key is coherent in every run, and every run of the pool's model obeys the law")?;
+    morning::report(rt)?;
+    proved(rt)
+}
+
+// What is proved of every run, on the contracts of the functions called here.
+fn proved(rt: &LibcRuntime) -> Result<(), Fault> {
+    println!(rt, "== proved: {} worked cases at the limits of the rules", marked_cases())?;
+    if every_run_is_coherent() {
+        println!(rt, "== proved: in every run of one key a zone reads what the central pool holds, and beside an exclusive holder nobody reads")?;
+    }
+    if every_run_is_lawful() {
+        println!(rt, "== proved: in every run of a pool each answer is the central pool's, and once it is quiet every accepted start is answered")?;
     }
     Ok(())
 }
