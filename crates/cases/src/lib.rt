@@ -1,4 +1,6 @@
 // The worked cases at the limits of the rules, in one table.
+#![tactic(auto)]
+
 ghost use Rattle.std.specs.Prelude.{◌≡◌};
 ghost use Rattle.cases.specs.Marked.{MarkedCases};
 

@@ -21,11 +21,11 @@ Distinct (w ∷ ws) = (waiting_of ws w.zone ≡ None) × Distinct ws
 -- What has come for a served request, by its rule, whether its zone was listed, and whether the owner at the take-up is still
 -- listed; c is the central pool's value.
 abbrev pub Brought : Rule → Bool → Bool → Option Assignment → Option Assignment → Bool → Type 0
-Brought Sharing wasListed true c found purged = found ≡ None
-Brought Sharing wasListed false c found purged = (found ≡ None) × (c ≡ None)
-Brought Fetching wasListed true c found purged = found ≡ None
-Brought Fetching wasListed false c found purged = found ≡ c
-Brought Clearing true ownerListed c found purged = Unit {0}
+Brought Sharing was_listed true c found purged = found ≡ None
+Brought Sharing was_listed false c found purged = (found ≡ None) × (c ≡ None)
+Brought Fetching was_listed true c found purged = found ≡ None
+Brought Fetching was_listed false c found purged = found ≡ c
+Brought Clearing true owner_listed c found purged = Unit {0}
 Brought Clearing false true c found purged = purged ≡ false
 Brought Clearing false false c found purged = purged ≡ is_some c
 

@@ -1,4 +1,6 @@
 // One key in every run of the pool: the theorem, on the contract of a function that the program calls.
+#![tactic(auto)]
+
 ghost use Rattle.std.specs.Prelude.{◌≡◌, true};
 ghost use Rattle.coherence.specs.Coherent.{Coherent};
 ghost use Rattle.coherence.specs.Crossings.{CrossingsAreReached};

@@ -18,15 +18,15 @@ use Rattle.directory.specs.Directory.{Outcome, went, directory}
 
 -- the rule for a request, by whether its zone is listed when it is taken up
 abbrev pub rule_of : Demand → Bool → Rule
-rule_of GetSharedData onList = Sharing
-rule_of GetExclusiveData onList = Fetching
-rule_of GetExclusiveDataIfAny onList = Fetching
-rule_of GetRemovedData onList = Fetching
-rule_of Exclude onList = cond onList Clearing Fetching
-rule_of ExcludeIfAny onList = cond onList Clearing Fetching
-rule_of PurgeOthers onList = cond onList Clearing Fetching
-rule_of PurgeAndExclude onList = Clearing
-rule_of PurgeAll onList = Clearing
+rule_of GetSharedData on_list = Sharing
+rule_of GetExclusiveData on_list = Fetching
+rule_of GetExclusiveDataIfAny on_list = Fetching
+rule_of GetRemovedData on_list = Fetching
+rule_of Exclude on_list = cond on_list Clearing Fetching
+rule_of ExcludeIfAny on_list = cond on_list Clearing Fetching
+rule_of PurgeOthers on_list = cond on_list Clearing Fetching
+rule_of PurgeAndExclude on_list = Clearing
+rule_of PurgeAll on_list = Clearing
 
 -- what a listed zone is asked for another's request, by whether it was the owner and whether data has come
 abbrev pub ask_by : Rule → Bool → Bool → Option Ask
@@ -59,15 +59,15 @@ data_reply (Some a) = DataFound a
 
 -- by the demand, whether the zone was listed, the data that came, and whether the owner's purged message came
 abbrev pub reply_by : Demand → Bool → Option Assignment → Bool → Reply
-reply_by GetSharedData onList found purged = data_reply found
-reply_by GetExclusiveData onList found purged = data_reply found
-reply_by GetExclusiveDataIfAny onList found purged = data_reply found
-reply_by GetRemovedData onList found purged = data_reply found
-reply_by Exclude onList found purged = cond onList ExclusionMade (data_reply found)
-reply_by ExcludeIfAny onList found purged = cond onList ExclusionMade (data_reply found)
-reply_by PurgeOthers onList found purged = cond onList ExclusionMade (data_reply found)
-reply_by PurgeAndExclude onList found purged = ExclusionMade
-reply_by PurgeAll onList found purged = cond (onList || purged) ExclusionMade NoDataFound
+reply_by GetSharedData on_list found purged = data_reply found
+reply_by GetExclusiveData on_list found purged = data_reply found
+reply_by GetExclusiveDataIfAny on_list found purged = data_reply found
+reply_by GetRemovedData on_list found purged = data_reply found
+reply_by Exclude on_list found purged = cond on_list ExclusionMade (data_reply found)
+reply_by ExcludeIfAny on_list found purged = cond on_list ExclusionMade (data_reply found)
+reply_by PurgeOthers on_list found purged = cond on_list ExclusionMade (data_reply found)
+reply_by PurgeAndExclude on_list found purged = ExclusionMade
+reply_by PurgeAll on_list found purged = cond (on_list || purged) ExclusionMade NoDataFound
 
 -- the reply with which a served request ends
 abbrev pub reply_of : Served → Reply

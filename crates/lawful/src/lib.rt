@@ -1,4 +1,6 @@
 // Every run of a pool obeys the law over runs: the theorem, on the contract of a function that the program calls.
+#![tactic(auto)]
+
 ghost use Rattle.std.specs.Prelude.{◌≡◌, true};
 ghost use Rattle.lawful.specs.Theorem.{EveryRunIsLawful};
 

@@ -1,4 +1,6 @@
 // The pool over any transport and any kind of key: loading, opening, its calls and questions, and whole runs.
+#![tactic(auto)]
+
 pub mod loading;
 pub mod opened;
 pub mod running;

@@ -1,4 +1,6 @@
 // Tests of the pool: every refusal of every call, what a fault tells, and the limits of numbers, lanes and belt.
+#![tactic(auto)]
+
 #[cfg(test)]
 mod belt;
 #[cfg(test)]

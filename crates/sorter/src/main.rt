@@ -1,5 +1,7 @@
 // Three zones and the directory run a small scenario over each backplane, and a shift report follows.
 // Then the pool runs a morning of four zones.
+#![tactic(auto)]
+
 mod bench;
 mod central;
 mod faults;

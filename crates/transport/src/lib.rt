@@ -1,4 +1,6 @@
 // The lanes between the zones and the directory: one interface, and the backplanes that carry the lanes.
+#![tactic(auto)]
+
 pub mod faults;
 pub mod interface;
 pub mod lanes;
