@@ -6,7 +6,7 @@ use Rattle.keys.proofs.register.add_in.Goals as goal
 pub returns-then-next-row : goal.returns-then-next-row
 returns-then-next-row g c =
     let m = g.K.Key.meaning in
-    let none = c.in-default.ensures in
+    let none = c.in_default.ensures in
     let h = c.if-next-row.true in
     record {
       place = new_place m _ _ _ none h;
@@ -18,7 +18,7 @@ returns-then-next-row g c =
 pub returns : goal.returns
 returns g c =
     let m = g.K.Key.meaning in
-    let none = c.in-default.ensures in
+    let none = c.in_default.ensures in
     let h = c.if-next-row.false in
     record {
       place = full_place m _ _ _ none h;

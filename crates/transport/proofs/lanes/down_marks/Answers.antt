@@ -7,13 +7,13 @@ pub loop-zone-preserved : goal.loop-zone-preserved
 loop-zone-preserved c =
     let marks = c.loop-zone.marks in
     let z = c.loop-zone.zone in
-    let b = c.is-some.result in
+    let b = c.is_some.result in
     let inv = c.loop-zone.invariant in (
       length-set marks (8 + z) b ∙ inv.0,
       λ k l. (let ne : k ≢ 8 + z = omega arith in get_or-set_other marks (8 + z) k b false ne ∙ inv.1 k l),
       below_more (λ (k : ℕ). get_or (set marks (8 + z) b) (8 + k) false ≡ is_some (get_or c.args.outgoing.to k None)) z
           (λ k l. (let ne : 8 + k ≢ 8 + z = omega arith in get_or-set_other marks (8 + z) (8 + k) b false ne ∙ inv.2 k l))
-          (get_or-set_same marks (8 + z) b false (omega (arith, inv.0)) ∙ c.is-some.ensures),
+          (get_or-set_same marks (8 + z) b false (omega (arith, inv.0)) ∙ c.is_some.ensures),
     )
 
 pub returns : goal.returns

@@ -5,13 +5,13 @@ use Rattle.transport.proofs.Sendings.{ready_start, ready_skip, ready_at, sent_no
 use Rattle.transport.proofs.sending.send_each.Goals as goal
 use Rattle.transport.proofs.sending.send_each.Goals.{in-Some+in-ok-put, in-default}
 
-pub returns-in-err-put : goal.returns-in-err-put
-returns-in-err-put g c =
+pub returns-in_err-put : goal.returns-in_err-put
+returns-in_err-put g c =
     let t = g.T.Transport in
     let m = down_message c.args.place c.in-Some.down in
     let done = turn t.room g.met.T.Transport.part g.met.T.Transport.rest (t.waiting c.loop-zone.transport) (t.waiting c.put.new.self) c.args.outgoing.to c.loop-zone.zone c.in-Some.down m c.put.result
     c.loop-zone-test.true c.in-Some.is c.loop-zone.invariant.1 c.put.ensures.answer c.put.ensures.lists in
-    absurd (not_refused _ _ done.answer c.in-err-put.was)
+    absurd (not_refused _ _ done.answer c.in_err-put.was)
 
 pub loop-zone-init : goal.loop-zone-init
 loop-zone-init g c = (sent_none _ _ _, ready_start g.T.Transport.room _ _ c.requires)
@@ -24,15 +24,15 @@ loop-zone-preserved g c =
     let z = c.loop-zone.zone in
     let before = t.waiting c.loop-zone.transport in
     elim c.match-next.branch [
-      | in-Some+in-ok-put w ↦
+      | in-Some+in_ok-put w ↦
           let d = w.in-Some.down in
           let done = turn t.room g.met.T.Transport.part g.met.T.Transport.rest before (t.waiting w.put.new.self) to z d (down_message place d) w.put.result
           c.loop-zone-test.true w.in-Some.is c.loop-zone.invariant.1 w.put.ensures.answer w.put.ensures.lists in
           let same : t.waiting c.match-next.transport ≡ t.waiting w.put.new.self = ap t.waiting {y = w.put.new.self} w.transport-is in
           (sent_one _ place to z before _ d w.in-Some.is c.loop-zone.invariant.0 (same ∙ done.lists), ready_at t.room to (z + 1) (sym same) done.ready)
-      | in-default w ↦
+      | in_default w ↦
           let same : t.waiting c.match-next.transport ≡ before = ap t.waiting {y = c.loop-zone.transport} w.transport-is in
-          (sent_skip _ place to z before _ w.in-default.is c.loop-zone.invariant.0 same, ready_at t.room to (z + 1) (sym same) (ready_skip t.room before to z c.loop-zone.invariant.1))
+          (sent_skip _ place to z before _ w.in_default.is c.loop-zone.invariant.0 same, ready_at t.room to (z + 1) (sym same) (ready_skip t.room before to z c.loop-zone.invariant.1))
     ]
 
 pub returns : goal.returns

@@ -11,7 +11,7 @@ pub loop-zone-preserved : goal.loop-zone-preserved
 loop-zone-preserved c =
     let f : ℕ → Option Down = λ z. as_down (awaited_for c.args.self (items_of c.args.list) z) in
     let h : c.loop-zone.zone < length c.loop-zone.to = omega (arith, c.loop-zone.invariant.0) in
-    let e : c.as-down.result ≡ f c.loop-zone.zone = c.as-down.ensures ∙ ap as_down c.awaited-for.ensures in
+    let e : c.as_down.result ≡ f c.loop-zone.zone = c.as_down.ensures ∙ ap as_down c.awaited_for.ensures in
     (simp length-set c.loop-zone.invariant.0, rw e (fill_more f c.loop-zone.to c.loop-zone.zone h c.loop-zone.invariant.1))
 
 pub returns : goal.returns

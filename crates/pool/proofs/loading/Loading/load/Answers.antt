@@ -1,11 +1,11 @@
 use Rattle.pool.proofs.Tidiness.{loaded_rows, loaded_lines}
 use Rattle.pool.proofs.loading.Loading.load.Goals as goal
 
-pub invariant-of-self : goal.invariant-of-self
-invariant-of-self g c =
+pub invariant_of-self : goal.invariant_of-self
+invariant_of-self g c =
     let old = c.args.self.now in
     let was = old.tables in
-    let free = c.in-ok-place.ensures.free in
+    let free = c.in_ok-place.ensures.free in
     let done = c.load.ensures in (
       loaded_rows was.slots _ _ _ c.args.stock.assignment free.0 free.1 _ done.rows old.tidy_rows,
       (loaded_lines was.slots was.rows _ _ _ free.0 free.1 _ _ done.slots done.rows was.many_slots was.many_rows free.2 old.tidy_lines, tt),

@@ -11,8 +11,8 @@ use Rattle.pool.proofs.Loads.{goes_on, ends}
 use Rattle.pool.proofs.Ties.{tied_after}
 use Rattle.pool.proofs.loading.Loading.load_each.Goals as goal
 
-pub returns-in-err-load : goal.returns-in-err-load
-returns-in-err-load g c =
+pub returns-in_err-load : goal.returns-in_err-load
+returns-in_err-load g c =
     let k = g.K.Key.meaning in
     let size = length (row_of c.args.register.now) in
     let m = opens_as c.loop-item.self in
@@ -20,9 +20,9 @@ returns-in-err-load g c =
     let x = c.item-item.result in
     let inv = c.loop-item.invariant in
     let e = c.load.ensures.outcome ∙ ap (λ (n : ℕ). load_one k n m ks x) inv.1.len in
-    let p = err_from_is_err_and c.from-residual.result c.from-residual.ensures.1 in
+    let p = err_from_is_err_and c.from_residual.result c.from_residual.ensures.1 in
     let f = p.0 in
-    let failed : c.load.result ≡ Err f = c.in-err-load.was ∙ ap (λ (y : Fault). Err y) (sym p.2) in
+    let failed : c.load.result ≡ Err f = c.in_err-load.was ∙ ap (λ (y : Fault). Err y) (sym p.2) in
     let old = c.args.self.now in
     let outcome =
     ap (λ (y : Result (Unit {0}) Fault). let o : LoadOutcome g.row.K.Denot = (seen y, opens_as c.load.new.self, in_use c.load.new.register) in o) p.1
@@ -47,7 +47,7 @@ loop-item-preserved g c =
     let x = c.item-item.result in
     let inv = c.loop-item.invariant in
     let e = c.load.ensures.outcome ∙ ap (λ (n : ℕ). load_one k n m ks x) inv.1.len in (
-      goes_on k size m ks c.args.stock.now c.loop-item.item-index x c.loop-item-test.true c.item-item.is _ _ c.load.result e c.in-ok-load.was ∙ inv.0,
+      goes_on k size m ks c.args.stock.now c.loop-item.item-index x c.loop-item-test.true c.item-item.is _ _ c.load.result e c.in_ok-load.was ∙ inv.0,
       row_kept_twice _ _ _ inv.1 c.load.ensures.kept,
       c.load.ensures.lanes ∙ inv.2,
     )

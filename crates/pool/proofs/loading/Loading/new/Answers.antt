@@ -9,8 +9,8 @@ use Rattle.pool.proofs.Models.{same_tables}
 use Rattle.pool.proofs.Tidiness.{fresh_line, fresh_rows, fresh_lines}
 use Rattle.pool.proofs.loading.Loading.new.Goals as goal
 
-pub invariant-of-result : goal.invariant-of-result
-invariant-of-result g c =
+pub invariant_of-result : goal.invariant_of-result
+invariant_of-result g c =
     let made = c.unloaded.ensures in
     (fresh_rows _ made.rows, (fresh_lines _ _ made.slots made.rows, tt))
 
@@ -21,7 +21,7 @@ returns g c =
     let tables = same_tables plan all_empty plan.first_number made.slots made.rows made.counts in
     record {
       tables = tables;
-      each-line-invalid = λ k h. ap (λ (xs : List Slot). (get_or xs k blank_slot).line.state) made.slots ∙ fresh_line k;
+      each_line_invalid = λ k h. ap (λ (xs : List Slot). (get_or xs k blank_slot).line.state) made.slots ∙ fresh_line k;
       lanes = c.clear.ensures;
-      nothing-loaded = subst (λ (m : Model). TiedTo [] (loads_in m) (λ _. None)) (sym tables) (unstocked plan).tied;
+      nothing_loaded = subst (λ (m : Model). TiedTo [] (loads_in m) (λ _. None)) (sym tables) (unstocked plan).tied;
     }

@@ -11,11 +11,11 @@ returns-in-DeliverUp g c =
     let r = c.args.register.now in
     record {
       outcome =
-          keyless _ _ _ _ _ c.deliver-up.ensures.outcome
+          keyless _ _ _ _ _ c.deliver_up.ensures.outcome
           ∙ ap (called g.T.Transport.room g.K.Key.meaning (length (row_of r)) (model_of g.T.Transport c.args.self.now) (in_use r)) (sym c.in-DeliverUp.is);
       row = refl;
       kept = row_kept_same r;
-      refusal-changes-nothing = refused_also _ _ _ c.deliver-up.ensures.refusal-changes-nothing refl;
+      refusal_changes_nothing = refused_also _ _ _ c.deliver_up.ensures.refusal_changes_nothing refl;
     }
 
 pub returns-in-DeliverDown : goal.returns-in-DeliverDown
@@ -23,9 +23,9 @@ returns-in-DeliverDown g c =
     let r = c.args.register.now in
     record {
       outcome =
-          keyless _ _ _ _ _ c.deliver-down.ensures.outcome
+          keyless _ _ _ _ _ c.deliver_down.ensures.outcome
           ∙ ap (called g.T.Transport.room g.K.Key.meaning (length (row_of r)) (model_of g.T.Transport c.args.self.now) (in_use r)) (sym c.in-DeliverDown.is);
       row = refl;
       kept = row_kept_same r;
-      refusal-changes-nothing = refused_also _ _ _ c.deliver-down.ensures.refusal-changes-nothing refl;
+      refusal_changes_nothing = refused_also _ _ _ c.deliver_down.ensures.refusal_changes_nothing refl;
     }

@@ -33,11 +33,11 @@ loop-call-preserved g c =
     let x = c.call-item.result in
     let inv = c.loop-call.invariant in
     let e = c.call-answer.ensures.outcome ∙ ap (λ (n : ℕ). called t.room k n here ks x) inv.2.len in (
-      turn t.room k size here ks c.args.calls.now c.loop-call.call-index x c.loop-call-test.true c.call-item.is _ _ _ (vec_items c.loop-call.answers) _ c.push-reserved.ensures.items e ∙ inv.0,
+      turn t.room k size here ks c.args.calls.now c.loop-call.call-index x c.loop-call-test.true c.call-item.is _ _ _ (vec_items c.loop-call.answers) _ c.push_reserved.ensures.items e ∙ inv.0,
       turn_after t.room k size here ks c.args.calls.now c.loop-call.call-index x c.loop-call-test.true c.call-item.is _ _ c.call-answer.result e ∙ inv.1,
       row_kept_twice _ _ _ inv.2 c.call-answer.ensures.kept,
-      c.push-reserved.ensures.len ∙ ap (λ (n : ℕ). n + 1) inv.3,
-      omega (arith, c.push-reserved.ensures.capacity, inv.4),
+      c.push_reserved.ensures.len ∙ ap (λ (n : ℕ). n + 1) inv.3,
+      omega (arith, c.push_reserved.ensures.capacity, inv.4),
     )
 
 pub returns : goal.returns

@@ -4,11 +4,11 @@ use Rattle.directory.specs.Directory.{view_of}
 use Rattle.pool.proofs.Asking.{row_waits, row_is_calm, rows_all_calm}
 use Rattle.pool.proofs.opened.Opened.rows_are_calm.Goals as goal
 
-pub returns-then-has-waiting : goal.returns-then-has-waiting
-returns-then-has-waiting g c =
+pub returns-then-has_waiting : goal.returns-then-has_waiting
+returns-then-has_waiting g c =
     let rows = c.args.self.now.tables.rows in
     let many : length (map view_of rows) ≡ 32 = length-map rows view_of ∙ c.args.self.now.tables.many_rows in
-    row_waits (map view_of rows) c.loop-place.place (view_of c.record.result.row) c.record.ensures c.has-waiting.result c.has-waiting.ensures c.if-has-waiting.true (omega arith)
+    row_waits (map view_of rows) c.loop-place.place (view_of c.record.result.row) c.record.ensures c.has_waiting.result c.has_waiting.ensures c.if-has_waiting.true (omega arith)
 
 pub returns : goal.returns
 returns g c =

@@ -4,12 +4,12 @@ use Rattle.calls.specs.declared.slots.Slot.{Slot}
 use Rattle.pool.proofs.Rows.{fresh_sound}
 use Rattle.pool.proofs.tables.Tables.unloaded.Goals as goal
 
-pub invariant-of-result : goal.invariant-of-result
-invariant-of-result c = (refl, (refl, (fresh_sound _ (ap (λ (d : Directory). replicate 32 d) c.fresh-row.ensures), tt)))
+pub invariant_of-result : goal.invariant_of-result
+invariant_of-result c = (refl, (refl, (fresh_sound _ (ap (λ (d : Directory). replicate 32 d) c.fresh_row.ensures), tt)))
 
 pub returns : goal.returns
 returns c = record {
-  slots = ap (λ (s : Slot). replicate 256 s) c.blank-slot.ensures;
-  rows = ap (λ (d : Directory). replicate 32 d) c.fresh-row.ensures;
+  slots = ap (λ (s : Slot). replicate 256 s) c.blank_slot.ensures;
+  rows = ap (λ (d : Directory). replicate 32 d) c.fresh_row.ensures;
   counts = search rules;
 }

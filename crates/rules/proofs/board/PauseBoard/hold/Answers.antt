@@ -8,16 +8,16 @@ pub returns : goal.returns
 returns c =
     let board = c.args.self.now in
     let zone = c.args.zone in
-    let hold = c.begin-hold.result in
-    let held = c.begin-hold.ensures in
+    let hold = c.begin_hold.result in
+    let held = c.begin_hold.ensures in
     record {
       lender = held.lender;
       value = held.value;
       zone = held.zone;
       former = held.former;
-      as-found = ap (λ (b : PauseBoard). with_mark b hold.zone hold.former) held.value
+      as_found = ap (λ (b : PauseBoard). with_mark b hold.zone hold.former) held.value
           ∙ ap (λ (z : ℕ). with_mark (with_mark board zone true) z hold.former) held.zone
           ∙ ap (λ (b : Bool). with_mark (with_mark board zone true) zone b) held.former
           ∙ mark_back board zone true;
-      none-above-seven = held.none-above-seven;
+      none_above_seven = held.none_above_seven;
     }

@@ -7,8 +7,8 @@ use Rattle.transport.proofs.Answered.{number_small, full_answer, full_lists, don
 use Rattle.transport.specs.RingRoom.{lane_read, only_full, only_free}
 use Rattle.transport.proofs.bank.RingBank.put.Goals as goal
 
-pub returns-then-is-full : goal.returns-then-is-full
-returns-then-is-full g c =
+pub returns-then-is_full : goal.returns-then-is_full
+returns-then-is_full g c =
     let bank = c.args.self.now in
     let i = c.in-Some.i in
     let lists = bank_lists bank in
@@ -16,10 +16,10 @@ returns-then-is-full g c =
     let e : Some i ≡ lane_number c.args.lane = c.in-Some.ensures in
     let small = number_small c.args.lane i e in
     let read = ap length (lane_read bank.rings i c.index-self-i.result (omega (arith, bank.sixteen))) in
-    let many : g.row.DEPTH ≤ length (lane_at lists i) = omega (arith, leb-true g.row.DEPTH _ (sym c.is-full.ensures ∙ c.if-is-full.true)) in
+    let many : g.row.DEPTH ≤ length (lane_at lists i) = omega (arith, leb-true g.row.DEPTH _ (sym c.is_full.ensures ∙ c.if-is_full.true)) in
     let full : room lists (only_lane i) ≡ false = only_full g.row.DEPTH lists i small many in
     record {
-      answer = full_answer room lists c.args.lane i e _ _ c.no-room.ensures c.zone-then-is-full.ensures full;
+      answer = full_answer room lists c.args.lane i e _ _ c.no_room.ensures c.zone-then-is_full.ensures full;
       lists = full_lists room lists c.args.lane i e c.args.message full;
     }
 
@@ -29,7 +29,7 @@ push-requires g c =
     let i = c.in-Some.i in
     let small = number_small c.args.lane i c.in-Some.ensures in
     let read = ap length (lane_read bank.rings i c.index-self-i.result (omega (arith, bank.sixteen))) in
-    let few : length (lane_at (bank_lists bank) i) < g.row.DEPTH = omega (arith, leb-false g.row.DEPTH _ (sym c.is-full.ensures ∙ c.if-is-full.false)) in
+    let few : length (lane_at (bank_lists bank) i) < g.row.DEPTH = omega (arith, leb-false g.row.DEPTH _ (sym c.is_full.ensures ∙ c.if-is_full.false)) in
     (search rules, (small, few))
 
 pub returns : goal.returns
@@ -41,7 +41,7 @@ returns g c =
     let e : Some i ≡ lane_number c.args.lane = c.in-Some.ensures in
     let small = number_small c.args.lane i e in
     let read = ap length (lane_read bank.rings i c.index-self-i.result (omega (arith, bank.sixteen))) in
-    let few : length (lane_at lists i) < g.row.DEPTH = omega (arith, leb-false g.row.DEPTH _ (sym c.is-full.ensures ∙ c.if-is-full.false)) in
+    let few : length (lane_at lists i) < g.row.DEPTH = omega (arith, leb-false g.row.DEPTH _ (sym c.is_full.ensures ∙ c.if-is_full.false)) in
     let free : room lists (only_lane i) ≡ true = only_free g.row.DEPTH lists i small few in
     record {
       answer = done_answer room lists c.args.lane i e free;

@@ -8,8 +8,8 @@ use Rattle.transport.proofs.bank.RingBank.take.Goals as goal
 pub returns : goal.returns
 returns g c =
     let bank = c.args.self.now in
-    let i = c.in-ok-i.i in
-    let e : Some i ≡ lane_number c.args.lane = c.in-ok-i.ensures in
+    let i = c.in_ok-i.i in
+    let e : Some i ≡ lane_number c.args.lane = c.in_ok-i.ensures in
     let within : i < length bank.rings = omega (arith, number_small c.args.lane i e, bank.sixteen) in
     let was = c.index-self-i.result in
     record {

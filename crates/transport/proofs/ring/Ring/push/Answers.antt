@@ -3,8 +3,8 @@ use Rattle.transport.specs.Ring.{ring_list}
 use Rattle.transport.proofs.RingLists.{length_ring, ring_pushed}
 use Rattle.transport.proofs.ring.Ring.push.Goals as goal
 
-pub invariant-of-self : goal.invariant-of-self
-invariant-of-self g c =
+pub invariant_of-self : goal.invariant_of-self
+invariant_of-self g c =
     let r = c.args.self.now in
     let n = length_ring g.row.DEPTH r.slots r.head r.len in
     (omega arith, omega arith)

@@ -10,4 +10,4 @@ returns-in-Some c =
     let es = held c.args.self.now in
     let i = c.in-Some.i in
     let e : Some i ≡ lane_number c.args.lane = c.in-Some.ensures in
-    c.count-of.ensures ∙ count_is (lanes_of es) c.args.lane i _ e (lane_is es i (number_small c.args.lane i e))
+    c.count_of.ensures ∙ count_is (lanes_of es) c.args.lane i _ e (lane_is es i (number_small c.args.lane i e))

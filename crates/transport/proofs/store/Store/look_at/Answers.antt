@@ -8,6 +8,6 @@ use Rattle.transport.proofs.store.Store.look_at.Goals as goal
 pub returns : goal.returns
 returns c =
     let es = held c.args.self.now in
-    let i = c.in-ok-i.i in
-    let e : Some i ≡ lane_number c.args.lane = c.in-ok-i.ensures in
+    let i = c.in_ok-i.i in
+    let e : Some i ≡ lane_number c.args.lane = c.in_ok-i.ensures in
     c.behind.ensures ∙ behind_is (lanes_of es) c.args.lane i c.args.ahead _ e (lane_is es i (number_small c.args.lane i e))

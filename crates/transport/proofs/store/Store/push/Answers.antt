@@ -5,8 +5,8 @@ use Rattle.transport.proofs.StoreLists.{one_more}
 use Rattle.transport.specs.BeltLanes.{length_held}
 use Rattle.transport.proofs.store.Store.push.Goals as goal
 
-pub invariant-of-self : goal.invariant-of-self
-invariant-of-self c =
+pub invariant_of-self : goal.invariant_of-self
+invariant_of-self c =
     let store = c.args.self.now in
     let long = store.long in
     let n = length_held store in

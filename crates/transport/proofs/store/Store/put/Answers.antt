@@ -16,7 +16,7 @@ returns-then-self-ge-BELT-SIZE c =
     let alone = size_one i (number_small c.args.lane i e) in
     let full : belt_room lists (only_lane i) ≡ false = belt_refuses lists (only_lane i) (omega (arith, waiting_held store)) in
     record {
-      answer = full_answer belt_room lists c.args.lane i e _ _ c.no-room.ensures c.zone-then-self-ge-BELT-SIZE.ensures full;
+      answer = full_answer belt_room lists c.args.lane i e _ _ c.no_room.ensures c.zone-then-self-ge-BELT-SIZE.ensures full;
       lists = full_lists belt_room lists c.args.lane i e c.args.message full;
     }
 

@@ -10,15 +10,15 @@ offset-bounds-self-at c =
     let n = length_held store in
     omega arith
 
-pub invariant-of-self : goal.invariant-of-self
-invariant-of-self c =
+pub invariant_of-self : goal.invariant_of-self
+invariant_of-self c =
     let store = c.args.self.now in
     let long = store.long in
     let n = length_held store in
     let below : c.args.at < store.len = omega arith in
     let within : store.len ≤ length store.entries = omega arith in
-    let less = one_less store.entries c.rotate-left.new.self c.args.at store.len below within c.rotate-left.ensures.after in (
-      length_turned store.entries c.rotate-left.new.self c.args.at store.len below within c.rotate-left.ensures.len ∙ long,
+    let less = one_less store.entries c.rotate_left.new.self c.args.at store.len below within c.rotate_left.ensures.after in (
+      length_turned store.entries c.rotate_left.new.self c.args.at store.len below within c.rotate_left.ensures.len ∙ long,
       (
         omega arith,
         (
@@ -33,4 +33,4 @@ returns c =
     let store = c.args.self.now in
     let long = store.long in
     let n = length_held store in
-    one_less store.entries c.rotate-left.new.self c.args.at store.len (omega arith) (omega arith) c.rotate-left.ensures.after
+    one_less store.entries c.rotate_left.new.self c.args.at store.len (omega arith) (omega arith) c.rotate_left.ensures.after

@@ -7,26 +7,26 @@ use Rattle.transport.proofs.Answered.{number_small, oldest_is, taken_is}
 use Rattle.transport.specs.BeltLanes.{lane_is, lane_none, lane_first, lists_removed, lists_same}
 use Rattle.transport.proofs.store.Store.take.Goals as goal
 
-pub returns-in-err-at : goal.returns-in-err-at
-returns-in-err-at c =
+pub returns-in_err-at : goal.returns-in_err-at
+returns-in_err-at c =
     let es = held c.args.self.now in
-    let i = c.in-ok-i.i in
-    let e : Some i ≡ lane_number c.args.lane = c.in-ok-i.ensures in
-    let none = lane_is es i (number_small c.args.lane i e) ∙ lane_none es i c.in-err-at.ensures in
+    let i = c.in_ok-i.i in
+    let e : Some i ≡ lane_number c.args.lane = c.in_ok-i.ensures in
+    let none = lane_is es i (number_small c.args.lane i e) ∙ lane_none es i c.in_err-at.ensures in
     record {
-      answer = c.from-residual-in-err-at.ensures ∙ ap oldest_of (sym none) ∙ oldest_is (lanes_of es) c.args.lane i e;
+      answer = c.from_residual-in_err-at.ensures ∙ ap oldest_of (sym none) ∙ oldest_is (lanes_of es) c.args.lane i e;
       lists = lists_same (lanes_of es) i none ∙ taken_is (lanes_of es) c.args.lane i e;
     }
 
 pub returns : goal.returns
 returns c =
     let es = held c.args.self.now in
-    let i = c.in-ok-i.i in
-    let e : Some i ≡ lane_number c.args.lane = c.in-ok-i.ensures in
+    let i = c.in_ok-i.i in
+    let e : Some i ≡ lane_number c.args.lane = c.in_ok-i.ensures in
     let small = number_small c.args.lane i e in
-    let found = c.in-ok-at.ensures in
-    let first = lane_first es i c.in-ok-at.at small found (entry_of 0 blank) in
+    let found = c.in_ok-at.ensures in
+    let first = lane_first es i c.in_ok-at.at small found (entry_of 0 blank) in
     record {
       answer = ap (λ (m : Message). Some m) (c.message-message.ensures (entry_of 0 blank)) ∙ ap oldest_of (sym first) ∙ oldest_is (lanes_of es) c.args.lane i e;
-      lists = ap lanes_of c.remove.ensures ∙ lists_removed es i c.in-ok-at.at small found (entry_of 0 blank) ∙ taken_is (lanes_of es) c.args.lane i e;
+      lists = ap lanes_of c.remove.ensures ∙ lists_removed es i c.in_ok-at.at small found (entry_of 0 blank) ∙ taken_is (lanes_of es) c.args.lane i e;
     }
