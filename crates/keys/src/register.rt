@@ -10,7 +10,7 @@ use crate::key::Key;
 
 // The place of the key that means the same, among the first `used` of the row.
 fn find_in<K: Key>(row: &[K], used: usize, key: &K) -> Option<usize>
-    ensures { result ≡ place_of meaning (take used row.now) key.now }
+    ensures { result ≡ place_of K.meaning (take used row.now) key.now }
 {
     for i in 0..used.min(row.len()) {
         if row[i].same(key) {
@@ -40,7 +40,7 @@ fn key_in<K>(row: &[K], used: usize, place: usize) -> Option<&K>
 
 // The place that the key has, or would be given next.
 fn place_in<K: Key>(row: &[K], used: usize, key: &K) -> Option<usize>
-    ensures { result ≡ place_given meaning (take used row.now) (length row.now) key.now }
+    ensures { result ≡ place_given K.meaning (take used row.now) (length row.now) key.now }
 {
     if let Some(place) = find_in(row, used, key) {
         return Some(place);
@@ -50,8 +50,8 @@ fn place_in<K: Key>(row: &[K], used: usize, key: &K) -> Option<usize>
 
 // Gives the key its place: the place that it has, or the next one, where the key is then written.
 fn add_in<K: Key + Drop>(row: &mut [K], used: &mut usize, key: K) -> Option<usize>
-    ensures place { result ≡ place_given meaning (take used.old row.old) (length row.old) key }
-    ensures keys { take used.new row.new ≡ keys_after meaning (take used.old row.old) (length row.old) key }
+    ensures place { result ≡ place_given K.meaning (take used.old row.old) (length row.old) key }
+    ensures keys { take used.new row.new ≡ keys_after K.meaning (take used.old row.old) (length row.old) key }
     ensures rest { drop used.new row.new ≡ drop used.new row.old }
     ensures len { length row.new ≡ length row.old }
 {
@@ -107,22 +107,22 @@ impl<'a, K: Key + Drop> Register<'a, K> {
 
     // The place that the key has.
     pub fn find(&self, key: &K) -> Option<usize>
-        ensures { result ≡ place_of meaning (in_use self.now) key.now }
+        ensures { result ≡ place_of K.meaning (in_use self.now) key.now }
     {
         find_in(self.row, self.used, key)
     }
 
     // The place that the key has, or would be given next. Changes nothing.
     pub fn place(&self, key: &K) -> Option<usize>
-        ensures { result ≡ place_given meaning (in_use self.now) (length (row_of self.now)) key.now }
+        ensures { result ≡ place_given K.meaning (in_use self.now) (length (row_of self.now)) key.now }
     {
         place_in(self.row, self.used, key)
     }
 
     // Hands the row and the count of keys in use to `add_in`.
     fn enter(&mut self, key: K) -> Option<usize>
-        ensures place { result ≡ place_given meaning (in_use self.old) (length (row_of self.old)) key }
-        ensures keys { in_use self.new ≡ keys_after meaning (in_use self.old) (length (row_of self.old)) key }
+        ensures place { result ≡ place_given K.meaning (in_use self.old) (length (row_of self.old)) key }
+        ensures keys { in_use self.new ≡ keys_after K.meaning (in_use self.old) (length (row_of self.old)) key }
         ensures rest { rest_of self.new ≡ drop self.new.used (row_of self.old) }
         ensures len { length (row_of self.new) ≡ length (row_of self.old) }
         ensures lender { self.new.row.ghost_name ≡ self.old.row.ghost_name }
@@ -135,16 +135,16 @@ impl<'a, K: Key + Drop> Register<'a, K> {
 
     // Gives the key its place: the one that it has, where the key first seen is kept, or the next. A full row adds nothing.
     pub fn add(&mut self, key: K) -> Option<usize>
-        ensures place { result ≡ place_given meaning (in_use self.old) (length (row_of self.old)) key }
-        ensures keys { in_use self.new ≡ keys_after meaning (in_use self.old) (length (row_of self.old)) key }
+        ensures place { result ≡ place_given K.meaning (in_use self.old) (length (row_of self.old)) key }
+        ensures keys { in_use self.new ≡ keys_after K.meaning (in_use self.old) (length (row_of self.old)) key }
         ensures rest { rest_of self.new ≡ drop self.new.used (row_of self.old) }
         ensures len { length (row_of self.new) ≡ length (row_of self.old) }
         ensures lender { self.new.row.ghost_name ≡ self.old.row.ghost_name }
         ensures row { RowKept self.old self.new }
-        ensures same_place_same_meaning { SamePlaceSameMeaning meaning (in_use self.new) }
-        ensures places_stay { PlacesStay meaning (in_use self.old) (in_use self.new) }
-        ensures stays_apart { Apart meaning (in_use self.old) → Apart meaning (in_use self.new) }
-        ensures own_places { Apart meaning (in_use self.old) → OwnPlaces meaning (in_use self.new) }
+        ensures same_place_same_meaning { SamePlaceSameMeaning K.meaning (in_use self.new) }
+        ensures places_stay { PlacesStay K.meaning (in_use self.old) (in_use self.new) }
+        ensures stays_apart { Apart K.meaning (in_use self.old) → Apart K.meaning (in_use self.new) }
+        ensures own_places { Apart K.meaning (in_use self.old) → OwnPlaces K.meaning (in_use self.new) }
     {
         self.enter(key)
     }

@@ -14,7 +14,7 @@ pub fn admit<T: Transport>(
     set: LaneSet,
     subject: Subject,
 ) -> Result<(), TransportFault>
-    ensures { told result ≡ admit_answer room (waiting transport.now) set.marks subject }
+    ensures { told result ≡ admit_answer T.room (T.waiting transport.now) set.marks subject }
 {
     if transport.has_room(set) {
         Ok(())
@@ -30,8 +30,8 @@ pub fn send_all<T: Transport>(
     outgoing: Outgoing,
     subject: Subject,
 ) -> Result<(), TransportFault>
-    ensures answer { told result ≡ send_answer room (waiting transport.old) outgoing.to subject }
-    ensures lists { waiting transport.new ≡ send_lists room (waiting transport.old) place outgoing.to }
+    ensures answer { told result ≡ send_answer T.room (T.waiting transport.old) outgoing.to subject }
+    ensures lists { T.waiting transport.new ≡ send_lists T.room (T.waiting transport.old) place outgoing.to }
 {
     if !transport.has_room(LaneSet::down_to(outgoing)) {
         return Err(TransportFault::no_room(subject));
@@ -45,9 +45,9 @@ fn send_each<T: Transport>(
     place: u8,
     outgoing: Outgoing,
 ) -> Result<(), TransportFault>
-    requires { room (waiting transport.old) (down_marks outgoing.to) ≡ true }
+    requires { T.room (T.waiting transport.old) (down_marks outgoing.to) ≡ true }
     ensures answer { result ≡ Ok tt }
-    ensures lists { waiting transport.new ≡ all_sent (waiting transport.old) place outgoing.to }
+    ensures lists { T.waiting transport.new ≡ all_sent (T.waiting transport.old) place outgoing.to }
 {
     for zone in 0..8u8 {
         let next = outgoing.to[zone as usize];

@@ -3,7 +3,7 @@ use Rattle.transport.specs.Sending.{down_message}
 use Rattle.transport.proofs.RoomLaws.{not_refused}
 use Rattle.transport.proofs.Sendings.{ready_start, ready_skip, ready_at, sent_none, sent_one, sent_skip, sent_end, turn}
 use Rattle.transport.proofs.sending.send_each.Goals as goal
-use Rattle.transport.proofs.sending.send_each.Goals.{in-Some+in-ok-put, in-default}
+use Rattle.transport.proofs.sending.send_each.Goals.{in-Some+in_ok-put, in_default}
 
 pub returns-in_err-put : goal.returns-in_err-put
 returns-in_err-put g c =

@@ -4,7 +4,7 @@ use Rattle.transport.specs.Lanes.{lane_at}
 use Rattle.transport.specs.Ring.{bank_lists}
 use Rattle.transport.specs.RingRoom.{Free, lane_read, one_full, room_tells}
 use Rattle.transport.proofs.bank.RingBank.has_room.Goals as goal
-use Rattle.transport.proofs.bank.RingBank.has_room.Goals.{else-set-i-via-then-set-i+else-is-full, else-set-i-via-else-set-i}
+use Rattle.transport.proofs.bank.RingBank.has_room.Goals.{else-set-i-via-then-set-i+else-is_full, else-set-i-via-else-set-i}
 
 pub returns-then-is_full : goal.returns-then-is_full
 returns-then-is_full g c =

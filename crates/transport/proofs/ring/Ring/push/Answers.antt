@@ -7,7 +7,7 @@ pub invariant_of-self : goal.invariant_of-self
 invariant_of-self g c =
     let r = c.args.self.now in
     let n = length_ring g.row.DEPTH r.slots r.head r.len in
-    (omega arith, omega arith)
+    record { ok = (omega arith, omega arith) }
 
 pub returns : goal.returns
 returns g c =

@@ -16,10 +16,10 @@ loop-k-preserved c =
       | then-self-k w ↦
           let from : length (lane_of (drop k (held store)) i) ≡ suc (length (lane_of (drop (k + 1) (held store)) i)) =
           ap length (lane_from_same store i k (entry_of 0 blank) c.loop-k-test.true w.if-self-k.true) in
-          (omega (arith, w.count_is), omega (arith, w.count_is))
+          (omega (arith, w.count-is), omega (arith, w.count-is))
       | else-self-k w ↦
           let from = ap length (lane_from_other store i k (entry_of 0 blank) c.loop-k-test.true w.if-self-k.false) in
-          (omega (arith, w.count_is), omega (arith, w.count_is))
+          (omega (arith, w.count-is), omega (arith, w.count-is))
     ]
 
 pub returns : goal.returns

@@ -4,8 +4,8 @@ use Rattle.transport.specs.declared.entry.Entry.{Entry}
 use Rattle.transport.specs.BeltLanes.{length_held}
 use Rattle.transport.proofs.store.Store.message.Goals as goal
 
-pub offset-bounds-self-at : goal.offset-bounds-self-at
-offset-bounds-self-at c =
+pub offset_bounds-self-at : goal.offset_bounds-self-at
+offset_bounds-self-at c =
     let long = c.args.self.now.long in
     let n = length_held c.args.self.now in
     omega arith

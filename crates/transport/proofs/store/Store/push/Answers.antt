@@ -11,7 +11,11 @@ invariant_of-self c =
     let long = store.long in
     let n = length_held store in
     let within : store.len < length store.entries = omega (arith, c.requires.0) in
-    (length-set store.entries store.len (entry_of c.args.lane c.args.message) ∙ long, (omega arith, (one_more store.entries store.len (entry_of c.args.lane c.args.message) within c.requires.1 store.lanes, tt)))
+    record {
+      long = length-set store.entries store.len (entry_of c.args.lane c.args.message) ∙ long;
+      few = omega arith;
+      lanes = one_more store.entries store.len (entry_of c.args.lane c.args.message) within c.requires.1 store.lanes;
+    }
 
 pub returns : goal.returns
 returns c =

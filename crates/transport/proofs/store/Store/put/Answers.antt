@@ -7,8 +7,8 @@ use Rattle.transport.specs.BeltLanes.{waiting_held, lists_pushed}
 use Rattle.transport.specs.BeltRoom.{belt_admits, belt_refuses, size_one}
 use Rattle.transport.proofs.store.Store.put.Goals as goal
 
-pub returns-then-self-ge-BELT-SIZE : goal.returns-then-self-ge-BELT-SIZE
-returns-then-self-ge-BELT-SIZE c =
+pub returns-then-self-ge-BELT_SIZE : goal.returns-then-self-ge-BELT_SIZE
+returns-then-self-ge-BELT_SIZE c =
     let store = c.args.self.now in
     let i = c.in-Some.i in
     let lists = store_lists store in
@@ -16,7 +16,7 @@ returns-then-self-ge-BELT-SIZE c =
     let alone = size_one i (number_small c.args.lane i e) in
     let full : belt_room lists (only_lane i) ≡ false = belt_refuses lists (only_lane i) (omega (arith, waiting_held store)) in
     record {
-      answer = full_answer belt_room lists c.args.lane i e _ _ c.no_room.ensures c.zone-then-self-ge-BELT-SIZE.ensures full;
+      answer = full_answer belt_room lists c.args.lane i e _ _ c.no_room.ensures c.zone-then-self-ge-BELT_SIZE.ensures full;
       lists = full_lists belt_room lists c.args.lane i e c.args.message full;
     }
 

@@ -3,8 +3,8 @@ use Rattle.transport.proofs.StoreLists.{one_less, less_small, small_at, length_t
 use Rattle.transport.specs.BeltLanes.{length_held}
 use Rattle.transport.proofs.store.Store.remove.Goals as goal
 
-pub offset-bounds-self-at : goal.offset-bounds-self-at
-offset-bounds-self-at c =
+pub offset_bounds-self-at : goal.offset_bounds-self-at
+offset_bounds-self-at c =
     let store = c.args.self.now in
     let long = store.long in
     let n = length_held store in
@@ -17,16 +17,12 @@ invariant_of-self c =
     let n = length_held store in
     let below : c.args.at < store.len = omega arith in
     let within : store.len ≤ length store.entries = omega arith in
-    let less = one_less store.entries c.rotate_left.new.self c.args.at store.len below within c.rotate_left.ensures.after in (
-      length_turned store.entries c.rotate_left.new.self c.args.at store.len below within c.rotate_left.ensures.len ∙ long,
-      (
-        omega arith,
-        (
-          small_at _ _ (store.len - 1) less (less_small store.entries c.args.at store.len below within store.lanes),
-          tt,
-        ),
-      ),
-    )
+    let less = one_less store.entries c.rotate_left.new.self c.args.at store.len below within c.rotate_left.ensures.after in
+    record {
+      long = length_turned store.entries c.rotate_left.new.self c.args.at store.len below within c.rotate_left.ensures.len ∙ long;
+      few = omega arith;
+      lanes = small_at _ _ (store.len - 1) less (less_small store.entries c.args.at store.len below within store.lanes);
+    }
 
 pub returns : goal.returns
 returns c =

@@ -10,8 +10,8 @@ loop-i-preserved c =
     let i = c.loop-i.i in
     let h : i < length zs = omega (arith, c.loop-i.invariant.long) in
     elim c.if-z-zone.branch [
-      | then-z-zone w ↦ rw (w.items-is, w.count_is) (FiltersInPlace-more_set c.loop-i.invariant h (search rules) (get_or_default zs i 0 _ h))
-      | else-z-zone w ↦ rw (w.items-is, w.count_is) (FiltersInPlace-more_no c.loop-i.invariant h (search rules) (get_or_default zs i 0 _ h))
+      | then-z-zone w ↦ rw (w.items-is, w.count-is) (FiltersInPlace-more_set c.loop-i.invariant h (search rules) (get_or_default zs i 0 _ h))
+      | else-z-zone w ↦ rw (w.items-is, w.count-is) (FiltersInPlace-more_no c.loop-i.invariant h (search rules) (get_or_default zs i 0 _ h))
     ]
 
 pub returns : goal.returns
