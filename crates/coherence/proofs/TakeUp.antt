@@ -192,4 +192,4 @@ take_up_keeps s i = go s.dir.list s.dir.waiting s.dir.served i.linked i.beyond i
     go : (xs : List ℕ) (ws : List Waiting) (sv : Option Served) → ((y : ℕ) → Linked (with_directory s (directory xs ws sv)) y) → Beyond s.up xs ws → Distinct ws →
         Ready s.central xs ws sv → TakenUp s (takes_up xs ws sv)
     go xs ws None linked beyond dq h = first_keeps s xs ws linked beyond dq h
-    go xs ws (Some sv) linked beyond dq h = already_serving
+    go xs ws (Some now) linked beyond dq h = already_serving

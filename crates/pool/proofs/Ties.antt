@@ -226,4 +226,4 @@ module _ {K : Type 0} (meaning : K → List ℕ) (size : ℕ) (plan : Plan) wher
       let s : Stocked plan m (map meaning ks) values = record { planned = planned; many_slots = slots; many_rows = rows; tied = tied } in
       let after : Stocked plan m' (map meaning ks') (stocked_from meaning values xs) = subst (λ (o : LoadOutcome K). StockedIn o (stocked_from meaning values xs)) (sym e) (stocked_all xs m ks values s) in
       after.tied
-  tied_after xs m m' ks ks' (Err f) e planned slots rows values tied = tt
+  tied_after xs m _ ks _ (Err f) e planned slots rows values tied = tt

@@ -40,9 +40,6 @@ module _ {K : Type 0} (room : Rule) (meaning : K → List ℕ) (plan : Plan) (si
   stocked : Stocked plan m (map meaning ks) (stock_values meaning stock)
   stocked = subst (λ (o : LoadOutcome K). StockedIn meaning size plan o (stock_values meaning stock)) (sym loaded) (stocked_all meaning size plan stock (unloaded plan) [] (λ key. None) (unstocked plan))
 
-  abbrev asked : List (Call (List ℕ))
-  asked = map (meant meaning) calls
-
   module _ (told : List (Result Report Facts)) (is : told ≡ results room meaning size m ks calls) (last : Model × List K) (ends : last ≡ after_run room meaning size m ks calls) where
     rules : (Ok told, last.0, last.1) ≡ whole_run room meaning plan size stock calls
     rules =
@@ -50,15 +47,10 @@ module _ {K : Type 0} (room : Rule) (meaning : K → List ℕ) (plan : Plan) (si
         ∙ ap (λ (q : Model × List K). let o : Whole K = (Ok (results room meaning size m ks calls), q.0, q.1) in o) ends
         ∙ ap (calls_on room meaning size calls) loaded
 
-    law : LawfulWith room m (loads_in m) → Law (stock_values meaning stock) plan.first_number (trace asked told) last.0 (map meaning last.1)
+    law : LawfulWith room m (loads_in m) → Law (stock_values meaning stock) plan.first_number (trace (map (meant meaning) calls) told) last.0 (map meaning last.1)
     law every =
-        let first : Law (stock_values meaning stock) m.plan.first_number (trace asked (results room (λ k. k) size m (map meaning ks) asked)) (after_run room (λ k. k) size m (map meaning ks) asked).0 (after_run room (λ k. k) size m (map meaning ks) asked).1
-        = every size (map meaning ks) (stock_values meaning stock) stocked.tied asked in
-        let with_results : Law (stock_values meaning stock) m.plan.first_number (trace asked told) (after_run room (λ k. k) size m (map meaning ks) asked).0 (after_run room (λ k. k) size m (map meaning ks) asked).1
-        = subst (λ (rs : List (Result Report Facts)). Law (stock_values meaning stock) m.plan.first_number (trace asked rs) (after_run room (λ k. k) size m (map meaning ks) asked).0 (after_run room (λ k. k) size m (map meaning ks) asked).1) (sym (is ∙ results_meant meaning room size m ks calls)) first in
-        let with-end : Law (stock_values meaning stock) m.plan.first_number (trace asked told) last.0 (map meaning last.1)
-        = subst (λ (q : Model × List (List ℕ)). Law (stock_values meaning stock) m.plan.first_number (trace asked told) q.0 q.1) (sym (ap (λ (q : Model × List K). let p : Model × List (List ℕ) = (q.0, map meaning q.1) in p) ends ∙ after_meant meaning room size m ks calls)) with_results in
-        subst (λ (p : Plan). Law (stock_values meaning stock) p.first_number (trace asked told) last.0 (map meaning last.1)) stocked.planned with-end
+        subst (λ (p : Plan). Law (stock_values meaning stock) p.first_number (trace (map (meant meaning) calls) told) last.0 (map meaning last.1)) stocked.planned
+          (keyed_law room meaning size m ks calls told is last ends (stock_values meaning stock) stocked.tied every)
 
     pub ran : LawfulWith room m (loads_in m) → Ran room meaning plan size stock calls told
     ran every = record { pool = last.0; keys = last.1; by_rules = rules; by_law = law every }

@@ -39,8 +39,8 @@ impl<T: Transport> Opened<T> {
     // Refusals 17 and 11, or the change.
     fn down_at(&self, zone: u8, place: u8, kind: Kind) -> Result<LineChange, Fault>
         requires { (zone < 8) × (place < 32) }
-        ensures outcome { line_done (model_of T.Transport self.now) result ≡ down_by room (model_of T.Transport self.now) zone place (received (state_at (model_of T.Transport self.now) zone place) kind) }
-        ensures ready { IfOk result (λ ch. LineReady room (waiting self.now.transport) ch) }
+        ensures outcome { line_done (model_of T.Transport self.now) result ≡ down_by T.room (model_of T.Transport self.now) zone place (received (state_at (model_of T.Transport self.now) zone place) kind) }
+        ensures ready { IfOk result (λ ch. LineReady T.room (T.waiting self.now.transport) ch) }
     {
         let slot = self.tables.slots[zone as usize * 32 + place as usize];
         let mut line = slot.line;
@@ -64,8 +64,8 @@ impl<T: Transport> Opened<T> {
 
     // Refusals 6 and 14 come before.
     fn decide_down(&self, zone: u8) -> Result<LineChange, Fault>
-        ensures outcome { line_done (model_of T.Transport self.now) result ≡ down_call room (model_of T.Transport self.now) zone }
-        ensures ready { IfOk result (λ ch. LineReady room (waiting self.now.transport) ch) }
+        ensures outcome { line_done (model_of T.Transport self.now) result ≡ down_call T.room (model_of T.Transport self.now) zone }
+        ensures ready { IfOk result (λ ch. LineReady T.room (T.waiting self.now.transport) ch) }
     {
         if zone >= self.plan.zones() {
             return Err(Fault::at_zone(Refusal::NoSuchZone, zone));

@@ -21,8 +21,8 @@ impl<T: Transport> Opened<T> {
     // Refusals 17 and 11, or the change.
     fn up_at(&self, zone: u8, place: u8, kind: Kind) -> Result<RowChange, Fault>
         requires { place < 32 }
-        ensures outcome { row_done (model_of T.Transport self.now) result ≡ up_by room (model_of T.Transport self.now) zone place (delivered kind zone (row_at (model_of T.Transport self.now) place)) }
-        ensures ready { IfOk result (λ ch. RowReady room (waiting self.now.transport) ch) }
+        ensures outcome { row_done (model_of T.Transport self.now) result ≡ up_by T.room (model_of T.Transport self.now) zone place (delivered kind zone (row_at (model_of T.Transport self.now) place)) }
+        ensures ready { IfOk result (λ ch. RowReady T.room (T.waiting self.now.transport) ch) }
     {
         let mut record = self.tables.record(place);
         match record.deliver(zone, kind) {
@@ -39,8 +39,8 @@ impl<T: Transport> Opened<T> {
 
     // Refusals 6 and 14 come before.
     fn decide_up(&self, zone: u8) -> Result<RowChange, Fault>
-        ensures outcome { row_done (model_of T.Transport self.now) result ≡ up_call room (model_of T.Transport self.now) zone }
-        ensures ready { IfOk result (λ ch. RowReady room (waiting self.now.transport) ch) }
+        ensures outcome { row_done (model_of T.Transport self.now) result ≡ up_call T.room (model_of T.Transport self.now) zone }
+        ensures ready { IfOk result (λ ch. RowReady T.room (T.waiting self.now.transport) ch) }
     {
         if zone >= self.plan.zones() {
             return Err(Fault::at_zone(Refusal::NoSuchZone, zone));

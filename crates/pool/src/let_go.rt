@@ -24,8 +24,8 @@ impl<T: Transport> Opened<T> {
     // Refusals 12 and 11, or the change.
     fn let_go_at(&self, zone: u8, place: u8) -> Result<LineChange, Fault>
         requires { (zone < 8) × (place < 32) }
-        ensures outcome { line_done (model_of T.Transport self.now) result ≡ let_go_by room (model_of T.Transport self.now) zone place (let_go (state_at (model_of T.Transport self.now) zone place)) }
-        ensures ready { IfOk result (λ ch. LineReady room (waiting self.now.transport) ch) }
+        ensures outcome { line_done (model_of T.Transport self.now) result ≡ let_go_by T.room (model_of T.Transport self.now) zone place (let_go (state_at (model_of T.Transport self.now) zone place)) }
+        ensures ready { IfOk result (λ ch. LineReady T.room (T.waiting self.now.transport) ch) }
     {
         let slot = self.tables.slots[zone as usize * 32 + place as usize];
         let mut line = slot.line;
@@ -53,8 +53,8 @@ impl<T: Transport> Opened<T> {
 
     // Refusals 6 and 13 come before.
     fn decide_let_go(&self, place: Option<usize>, zone: u8) -> Result<LineChange, Fault>
-        ensures outcome { line_done (model_of T.Transport self.now) result ≡ let_go_call room (model_of T.Transport self.now) place zone }
-        ensures ready { IfOk result (λ ch. LineReady room (waiting self.now.transport) ch) }
+        ensures outcome { line_done (model_of T.Transport self.now) result ≡ let_go_call T.room (model_of T.Transport self.now) place zone }
+        ensures ready { IfOk result (λ ch. LineReady T.room (T.waiting self.now.transport) ch) }
     {
         if zone >= self.plan.zones() {
             return Err(Fault::at_zone(Refusal::NoSuchZone, zone));

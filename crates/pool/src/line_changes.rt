@@ -39,8 +39,8 @@ fn carry_up<T: Transport>(
     place: u8,
     sent: Option<Up>,
 )
-    requires { (zone < 8) × (up_admits room (waiting transport.old) zone sent ≡ true) }
-    ensures { waiting transport.new ≡ sent_up (after_take (waiting transport.old) delivered) zone place sent }
+    requires { (zone < 8) × (up_admits T.room (T.waiting transport.old) zone sent ≡ true) }
+    ensures { T.waiting transport.new ≡ sent_up (after_take (T.waiting transport.old) delivered) zone place sent }
 {
     if let Some(lane) = delivered {
         let _ = transport.take(lane);
@@ -59,7 +59,7 @@ fn carry_up<T: Transport>(
 impl<T: Transport> Opened<T> {
     // Whether there is room for what a line would send.
     pub(crate) fn admits_up(&self, zone: u8, sent: Option<Up>) -> Result<(), TransportFault>
-        ensures { told result ≡ (if up_admits room (waiting self.now.transport) zone sent then Ok tt else Err (refused 11 (Zone zone))) }
+        ensures { told result ≡ (if up_admits T.room (T.waiting self.now.transport) zone sent then Ok tt else Err (refused 11 (Zone zone))) }
     {
         if sent.is_none() {
             return Ok(());
@@ -73,7 +73,7 @@ impl<T: Transport> Opened<T> {
 
     // Carries out a decision on one line.
     pub(crate) fn change_line(&mut self, change: LineChange) -> Report
-        requires { LineReady room (waiting self.old.transport) change }
+        requires { LineReady T.room (T.waiting self.old.transport) change }
         ensures report { result ≡ change.report }
         ensures model { model_of T.Transport self.new ≡ line_changed (model_of T.Transport self.old) change }
     {

@@ -95,7 +95,7 @@ impl<T: Transport> Opened<T> {
     }
 
     fn lanes_are_empty(&self) -> bool
-        ensures { result ≡ lanes_empty (waiting self.now.transport) }
+        ensures { result ≡ lanes_empty (T.waiting self.now.transport) }
     {
         for number in 0..16u8 {
             if self.transport.look(lane_of(number)).is_some() {
@@ -151,21 +151,21 @@ impl<T: Transport> Opened<T> {
 
     // The oldest message that waits in a lane.
     pub fn oldest_waiting(&self, lane: Lane) -> Option<Message>
-        ensures { result ≡ oldest (waiting self.now.transport) lane }
+        ensures { result ≡ oldest (T.waiting self.now.transport) lane }
     {
         self.transport.look(lane)
     }
 
     // How many messages wait in a lane.
     pub fn waiting_count(&self, lane: Lane) -> usize
-        ensures { result ≡ waiting_count (waiting self.now.transport) lane }
+        ensures { result ≡ waiting_count (T.waiting self.now.transport) lane }
     {
         self.transport.count(lane)
     }
 
     // The message that has `ahead` older ones before it in its lane.
     pub fn waiting_at(&self, lane: Lane, ahead: usize) -> Option<Message>
-        ensures { result ≡ waiting_at (waiting self.now.transport) lane ahead }
+        ensures { result ≡ waiting_at (T.waiting self.now.transport) lane ahead }
     {
         self.transport.look_at(lane, ahead)
     }

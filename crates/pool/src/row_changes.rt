@@ -47,8 +47,8 @@ fn carry_down<T: Transport>(
     place: u8,
     outgoing: Outgoing,
 )
-    requires { down_admits room (waiting transport.old) outgoing.to ≡ true }
-    ensures { waiting transport.new ≡ sent_down (after_take (waiting transport.old) delivered) place outgoing.to }
+    requires { down_admits T.room (T.waiting transport.old) outgoing.to ≡ true }
+    ensures { T.waiting transport.new ≡ sent_down (after_take (T.waiting transport.old) delivered) place outgoing.to }
 {
     if let Some(lane) = delivered {
         let _ = transport.take(lane);
@@ -61,7 +61,7 @@ fn carry_down<T: Transport>(
 impl<T: Transport> Opened<T> {
     // Whether there is room for what the directory would send.
     fn admits_down(&self, outgoing: Outgoing, subject: Subject) -> Result<(), TransportFault>
-        ensures { told result ≡ (if down_admits room (waiting self.now.transport) outgoing.to then Ok tt else Err (refused 11 subject)) }
+        ensures { told result ≡ (if down_admits T.room (T.waiting self.now.transport) outgoing.to then Ok tt else Err (refused 11 subject)) }
     {
         if !sends_any(outgoing) {
             return Ok(());
@@ -90,8 +90,8 @@ impl<T: Transport> Opened<T> {
         delivered: Option<Lane>,
     ) -> Result<RowChange, Fault>
         requires { place < 32 }
-        ensures outcome { row_done (model_of T.Transport self.now) result ≡ if_down_room room (model_of T.Transport self.now) subject place effect.outgoing.to effect.settled (view_of kept.row) (after_take (waiting self.now.transport) delivered) }
-        ensures ready { IfOk result (λ ch. RowReady room (waiting self.now.transport) ch) }
+        ensures outcome { row_done (model_of T.Transport self.now) result ≡ if_down_room T.room (model_of T.Transport self.now) subject place effect.outgoing.to effect.settled (view_of kept.row) (after_take (T.waiting self.now.transport) delivered) }
+        ensures ready { IfOk result (λ ch. RowReady T.room (T.waiting self.now.transport) ch) }
     {
         self.admits_down(effect.outgoing, subject)?;
         let settled = self.number_of(place, effect.settled);
@@ -110,7 +110,7 @@ impl<T: Transport> Opened<T> {
 
     // Carries out a decision on one row.
     pub(crate) fn change_row(&mut self, change: RowChange) -> Report
-        requires { RowReady room (waiting self.old.transport) change }
+        requires { RowReady T.room (T.waiting self.old.transport) change }
         ensures report { result ≡ change.report }
         ensures model { model_of T.Transport self.new ≡ row_changed (model_of T.Transport self.old) change }
     {

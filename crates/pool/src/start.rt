@@ -68,8 +68,8 @@ impl<T: Transport> Opened<T> {
     // Refusals 9, 10 and 11, or the change.
     fn start_at(&self, zone: u8, place: u8, request: Request) -> Result<LineChange, Fault>
         requires { (zone < 8) × (place < 32) }
-        ensures outcome { line_done (model_of T.Transport self.now) result ≡ start_by room (model_of T.Transport self.now) zone place (requested (state_at (model_of T.Transport self.now) zone place) request) }
-        ensures ready { IfOk result (λ ch. LineReady room (waiting self.now.transport) ch) }
+        ensures outcome { line_done (model_of T.Transport self.now) result ≡ start_by T.room (model_of T.Transport self.now) zone place (requested (state_at (model_of T.Transport self.now) zone place) request) }
+        ensures ready { IfOk result (λ ch. LineReady T.room (T.waiting self.now.transport) ch) }
     {
         let slot = self.tables.slots[zone as usize * 32 + place as usize];
         let mut line = slot.line;
@@ -104,8 +104,8 @@ impl<T: Transport> Opened<T> {
         zone: u8,
         request: Request,
     ) -> Result<LineChange, Fault>
-        ensures outcome { line_done (model_of T.Transport self.now) result ≡ start_call room (model_of T.Transport self.now) place board.now zone request }
-        ensures ready { IfOk result (λ ch. LineReady room (waiting self.now.transport) ch) }
+        ensures outcome { line_done (model_of T.Transport self.now) result ≡ start_call T.room (model_of T.Transport self.now) place board.now zone request }
+        ensures ready { IfOk result (λ ch. LineReady T.room (T.waiting self.now.transport) ch) }
     {
         if zone >= self.plan.zones() {
             return Err(Fault::at_zone(Refusal::NoSuchZone, zone));

@@ -24,8 +24,8 @@ impl<T: Transport> Opened<T> {
     // Refusals 15, 16, 17 and 11, or the change.
     fn take_up_at(&self, place: u8) -> Result<RowChange, Fault>
         requires { place < 32 }
-        ensures outcome { row_done (model_of T.Transport self.now) result ≡ take_up_by room (model_of T.Transport self.now) place (taken_up (row_at (model_of T.Transport self.now) place)) }
-        ensures ready { IfOk result (λ ch. RowReady room (waiting self.now.transport) ch) }
+        ensures outcome { row_done (model_of T.Transport self.now) result ≡ take_up_by T.room (model_of T.Transport self.now) place (taken_up (row_at (model_of T.Transport self.now) place)) }
+        ensures ready { IfOk result (λ ch. RowReady T.room (T.waiting self.now.transport) ch) }
     {
         let mut record = self.tables.record(place);
         match record.take_up() {
@@ -36,8 +36,8 @@ impl<T: Transport> Opened<T> {
 
     // Refusal 13 comes before.
     fn decide_take_up(&self, place: Option<usize>) -> Result<RowChange, Fault>
-        ensures outcome { row_done (model_of T.Transport self.now) result ≡ take_up_call room (model_of T.Transport self.now) place }
-        ensures ready { IfOk result (λ ch. RowReady room (waiting self.now.transport) ch) }
+        ensures outcome { row_done (model_of T.Transport self.now) result ≡ take_up_call T.room (model_of T.Transport self.now) place }
+        ensures ready { IfOk result (λ ch. RowReady T.room (T.waiting self.now.transport) ch) }
     {
         let Some(place) = place else {
             return Err(Fault::of_nothing(Refusal::UnknownKey));

@@ -25,7 +25,7 @@ impl<T: Transport + Drop> Loading<T> {
     pub fn new(plan: Plan, mut transport: T) -> Loading<T>
         ensures tables { opens_as result ≡ unloaded plan }
         ensures each_line_invalid { (k : ℕ) → k < 256 → (slice_index_or result.tables.slots k blank_slot).line.state ≡ Invalid }
-        ensures lanes { waiting result.transport ≡ all_empty }
+        ensures lanes { T.waiting result.transport ≡ all_empty }
         ensures nothing_loaded { TiedTo [] (loads_in (opens_as result)) (λ _. None) }
     {
         transport.clear();
@@ -64,7 +64,7 @@ impl<T: Transport + Drop> Loading<T> {
         stock: Stock<K>,
     ) -> Result<(), Fault>
         ensures outcome { (seen result, opens_as self.new, in_use register.new) ≡ load_one K.Key.meaning (length (row_of register.old)) (opens_as self.old) (in_use register.old) stock }
-        ensures lanes { waiting self.new.transport ≡ waiting self.old.transport }
+        ensures lanes { T.waiting self.new.transport ≡ T.waiting self.old.transport }
         ensures row { length (row_of register.new) ≡ length (row_of register.old) }
         ensures kept { RowKept register.old register.new }
         ensures refusal_changes_nothing { OnErr result ((opens_as self.new ≡ opens_as self.old) × (in_use register.new ≡ in_use register.old)) }
@@ -82,7 +82,7 @@ impl<T: Transport + Drop> Loading<T> {
         stock: &[Stock<K>],
     ) -> Result<(), Fault>
         ensures outcome { (seen result, opens_as self.new, in_use register.new) ≡ load_all K.Key.meaning (length (row_of register.old)) (opens_as self.old) (in_use register.old) stock.now }
-        ensures lanes { waiting self.new.transport ≡ waiting self.old.transport }
+        ensures lanes { T.waiting self.new.transport ≡ T.waiting self.old.transport }
         ensures row { RowKept register.old register.new }
         ensures tied { (values : List ℕ → Option Assignment) → Tied K.Key.meaning (opens_as self.old) (in_use register.old) values → OnOk result (Tied K.Key.meaning (opens_as self.new) (in_use register.new) (stocked_from K.Key.meaning values stock.now)) }
     {
@@ -99,7 +99,7 @@ impl<T: Transport + Drop> Loading<T> {
         stock: &[Stock<K>],
     ) -> Result<(), Fault>
         ensures outcome { (seen result, opens_as self.new, in_use register.new) ≡ load_all K.Key.meaning (length (row_of register.old)) (opens_as self.old) (in_use register.old) stock.now }
-        ensures lanes { waiting self.new.transport ≡ waiting self.old.transport }
+        ensures lanes { T.waiting self.new.transport ≡ T.waiting self.old.transport }
         ensures row { length (row_of register.new) ≡ length (row_of register.old) }
         ensures kept { RowKept register.old register.new }
         ensures tied { (values : List ℕ → Option Assignment) → Tied K.Key.meaning (opens_as self.old) (in_use register.old) values → OnOk result (Tied K.Key.meaning (opens_as self.new) (in_use register.new) (stocked_from K.Key.meaning values stock.now)) }

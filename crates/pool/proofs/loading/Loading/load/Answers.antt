@@ -6,7 +6,8 @@ invariant_of-self g c =
     let old = c.args.self.now in
     let was = old.tables in
     let free = c.in_ok-place.ensures.free in
-    let done = c.load.ensures in (
-      loaded_rows was.slots _ _ _ c.args.stock.assignment free.0 free.1 _ done.rows old.tidy_rows,
-      (loaded_lines was.slots was.rows _ _ _ free.0 free.1 _ _ done.slots done.rows was.many_slots was.many_rows free.2 old.tidy_lines, tt),
-    )
+    let done = c.load.ensures in
+    record {
+      tidy_rows = loaded_rows was.slots _ _ _ c.args.stock.assignment free.0 free.1 _ done.rows old.tidy_rows;
+      tidy_lines = loaded_lines was.slots was.rows _ _ _ free.0 free.1 _ _ done.slots done.rows was.many_slots was.many_rows free.2 old.tidy_lines;
+    }

@@ -5,7 +5,11 @@ use Rattle.pool.proofs.Rows.{fresh_sound}
 use Rattle.pool.proofs.tables.Tables.unloaded.Goals as goal
 
 pub invariant_of-result : goal.invariant_of-result
-invariant_of-result c = (refl, (refl, (fresh_sound _ (ap (λ (d : Directory). replicate 32 d) c.fresh_row.ensures), tt)))
+invariant_of-result c = record {
+  many_slots = refl;
+  many_rows = refl;
+  sound_rows = fresh_sound _ (ap (λ (d : Directory). replicate 32 d) c.fresh_row.ensures);
+}
 
 pub returns : goal.returns
 returns c = record {
