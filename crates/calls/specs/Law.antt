@@ -1,8 +1,6 @@
 -- The law over runs: what the pool answers is what one central table would have answered.
-use Rattle.std.specs.Prelude.{◌≡◌, ℕ, ◌<◌, true, false, List, [], ◌∷◌, Some, None, Ok, Err, Option, Result, ◌==◌}
+use Rattle.std.specs.Prelude.{◌≡◌, ℕ, true, false, List, [], ◌∷◌, Some, None, Ok, Err, Option, Result, ◌==◌}
 use Rattle.messages.specs.declared.assignments.Assignment.{Assignment}
-use Rattle.messages.specs.declared.requests.Request.{Request}
-use Rattle.messages.specs.declared.requests.Answer.{Answer}
 use Rattle.messages.specs.Refusals.{Facts}
 use Rattle.transport.specs.Lanes.{Rule}
 use Rattle.calls.specs.declared.reports.Report.{Report}

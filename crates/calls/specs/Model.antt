@@ -1,6 +1,5 @@
 -- What an opened pool means: lines with their request numbers, directories, lanes, the next number, counts.
 use Rattle.std.specs.Prelude.{ℕ, ◌+◌, ◌*◌, List, [], None, slice_index_or}
-use Rattle.line.specs.declared.lines.Line.{Line}
 use Rattle.line.specs.declared.states.State.{State}
 use Rattle.line.specs.declared.states.State.TheVariants.{Invalid}
 use Rattle.directory.specs.Directory.{Directory, directory}

@@ -1,5 +1,5 @@
 -- A pool as it is opened: what was loaded, and how it is tied to the register's keys.
-use Rattle.std.specs.Prelude.{◌≡◌, ℕ, ◌<◌, cond, List, [], ◌∷◌, length, replicate, Some, None, Option, ◌==◌}
+use Rattle.std.specs.Prelude.{◌≡◌, ℕ, ◌<◌, cond, List, [], ◌∷◌, length, Some, None, Option, ◌==◌}
 use Rattle.messages.specs.declared.assignments.Assignment.{Assignment}
 use Rattle.line.specs.declared.states.State.{State}
 use Rattle.line.specs.declared.states.State.TheVariants.{Invalid, Exclusive}
@@ -7,9 +7,8 @@ use Rattle.directory.specs.Directory.{Directory, directory}
 use Rattle.transport.specs.Lanes.{all_empty}
 use Rattle.keys.specs.Places.{place_of}
 use Rattle.keys.specs.Promises.{Apart}
-use Rattle.rules.specs.declared.plan.Plan.{Plan}
 use Rattle.calls.specs.declared.slots.Slot.{Slot}
-use Rattle.calls.specs.Model.{Model, slot_at, state_at, row_at, fresh_row, no_counts}
+use Rattle.calls.specs.Model.{Model, state_at, row_at, fresh_row}
 
 -- what was loaded at a place: a zone and an assignment, or nothing
 abbrev pub Load : Type 0

@@ -6,7 +6,7 @@ use Rattle.calls.specs.declared.reports.Report.{Report}
 use Rattle.calls.specs.declared.call.Call.{Call}
 use Rattle.calls.specs.declared.call.Call.TheVariants as call
 use Rattle.calls.specs.Model.{Model}
-use Rattle.calls.specs.Outcomes.{Outcome, called}
+use Rattle.calls.specs.Outcomes.{called}
 
 -- the results of a run
 abbrev pub results : {K : Type 0} → Rule → (K → List ℕ) → ℕ → Model → List K → List (Call K) → List (Result Report Facts)

@@ -1,10 +1,10 @@
 -- What a call sends, and whether there is room for it.
-use Rattle.std.specs.Prelude.{ℕ, ◌+◌, Bool, true, false, cond, List, [], ◌∷◌, is_some, Some, None, Option}
+use Rattle.std.specs.Prelude.{ℕ, Bool, true, false, cond, List, [], ◌∷◌, is_some, Some, None, Option}
 use Rattle.messages.specs.declared.kinds.Up.{Up as UpKind}
 use Rattle.messages.specs.declared.kinds.Down.{Down as DownKind}
 use Rattle.messages.specs.declared.kinds.Kind.TheVariants as kind
 use Rattle.messages.specs.declared.kinds.Message.{Message}
-use Rattle.transport.specs.declared.lanes.Lane.TheVariants.{Up, Down}
+use Rattle.transport.specs.declared.lanes.Lane.TheVariants.{Up}
 use Rattle.transport.specs.Lanes.{Lists, Rule, no_lane, also_marked, joined_at}
 use Rattle.transport.specs.Sending.{down_marks, all_sent}
 

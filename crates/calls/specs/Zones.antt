@@ -1,6 +1,6 @@
 -- What a zone does in the pool: a start, a let-go, a delivery from its down lane. Refusals in their order: read each call
 -- from its last definition (`..Call`) upward, through its place or message, to what comes of the line's step (`..By`).
-use Rattle.std.specs.Prelude.{ℕ, ◌+◌, ◌*◌, min, Bool, cond, List, set, Some, None, Ok, Err, Option, Result, nat_lt, slice_set}
+use Rattle.std.specs.Prelude.{ℕ, ◌+◌, ◌*◌, min, cond, Some, None, Ok, Err, Option, Result, nat_lt, slice_set}
 use Rattle.messages.specs.declared.requests.Request.{Request}
 use Rattle.messages.specs.declared.requests.Answer.{Answer}
 use Rattle.messages.specs.declared.kinds.Up.{Up as UpKind}
@@ -12,7 +12,7 @@ use Rattle.line.specs.Requested.{requested}
 use Rattle.line.specs.Received.{received}
 use Rattle.line.specs.LetGo.{let_go}
 use Rattle.transport.specs.declared.faults.Subject.TheVariants.{Zone}
-use Rattle.transport.specs.declared.lanes.Lane.TheVariants.{Up, Down}
+use Rattle.transport.specs.declared.lanes.Lane.TheVariants.{Down}
 use Rattle.transport.specs.Faults as transport
 use Rattle.transport.specs.Lanes.{Lists, Rule, oldest, taken}
 use Rattle.rules.specs.declared.board.PauseBoard.{PauseBoard}

@@ -5,7 +5,6 @@ use Rattle.messages.specs.declared.requests.Request.TheVariants as request
 use Rattle.messages.specs.declared.requests.Answer.TheVariants as answer
 use Rattle.messages.specs.declared.kinds.Demand.{Demand}
 use Rattle.messages.specs.declared.kinds.Demand.TheVariants as demand
-use Rattle.messages.specs.declared.kinds.Up.{Up}
 use Rattle.messages.specs.declared.kinds.Up.TheVariants as up
 use Rattle.messages.specs.declared.kinds.Ask.{Ask}
 use Rattle.messages.specs.declared.kinds.Ask.TheVariants as ask

@@ -1,5 +1,5 @@
 -- What the directory keeps for one place, and what a step of it comes to.
-use Rattle.std.specs.Prelude.{ℕ, List, [], ◌∷◌, map, Some, None, Ok, Err, Option, Result}
+use Rattle.std.specs.Prelude.{ℕ, List, ◌∷◌, map, Some, None, Ok, Err, Option, Result}
 use Rattle.messages.specs.declared.kinds.Down.{Down}
 use Rattle.messages.specs.declared.refusals.Refusal.{Refusal}
 use Rattle.messages.specs.Refusals.{refusal_number}

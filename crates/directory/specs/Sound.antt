@@ -1,5 +1,5 @@
 -- What every record is: its zones are distinct and below 8, and a reader that is served is not listed.
-use Rattle.std.specs.Prelude.{ℕ, Bool, true, false, cond, not, ◌&&◌, List, [], ◌∷◌, Some, None, Option, nat_lt}
+use Rattle.std.specs.Prelude.{ℕ, Bool, true, false, cond, not, List, [], ◌∷◌, Some, None, Option, nat_lt}
 use Rattle.messages.specs.declared.kinds.Demand.{Demand}
 use Rattle.messages.specs.declared.kinds.Demand.TheVariants.{GetSharedData, GetExclusiveData, GetExclusiveDataIfAny, GetRemovedData, Exclude, ExcludeIfAny, PurgeOthers, PurgeAndExclude, PurgeAll}
 use Rattle.directory.specs.declared.rows.Served.{Served}

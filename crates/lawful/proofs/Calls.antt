@@ -1,12 +1,9 @@
 -- Every call, accepted or refused, is one to which the onlooker does not object, and keeps the invariant.
-use Rattle.std.proofs.Common.{◌≡◌, ℕ, ◌+◌, ◌<◌, ◌≤◌, Bool, true, false, cond, ltb, ◌⊎◌, List, [], ◌∷◌, Some, None, Ok, Err, Option, Result, sym, refl, ap, ◌∙◌, subst, ⊎_elim, arith}
+use Rattle.std.proofs.Common.{◌≡◌, ℕ, ◌+◌, ◌<◌, Bool, true, false, cond, ltb, List, Some, None, Ok, Err, Option, Result, sym, refl, ap, ◌∙◌, subst, ⊎_elim, arith}
 use Rattle.std.proofs.lemmas.Bool.{ltb-true, ltb-false, cases_eq}
 use Rattle.messages.specs.declared.requests.Request.{Request}
-use Rattle.messages.specs.declared.requests.Answer.{Answer}
-use Rattle.messages.specs.declared.kinds.Up.{Up as UpKind}
 use Rattle.messages.specs.declared.kinds.Down.{Down as DownKind}
 use Rattle.messages.specs.declared.kinds.Message.{Message}
-use Rattle.messages.specs.Central as central
 use Rattle.messages.specs.Refusals.{Facts}
 use Rattle.line.specs.declared.states.State.{State}
 use Rattle.line.specs.Outcomes.{Outcome, refused, moved}
@@ -18,7 +15,7 @@ use Rattle.directory.specs.Directory as rows
 use Rattle.directory.specs.Arrivals.{delivered}
 use Rattle.directory.specs.TakeUp.{taken_up}
 use Rattle.transport.specs.declared.lanes.Lane.TheVariants.{Up, Down}
-use Rattle.transport.specs.Lanes.{Lists, Rule, oldest, taken}
+use Rattle.transport.specs.Lanes.{Rule, oldest, taken}
 use Rattle.rules.specs.declared.board.PauseBoard.{PauseBoard}
 use Rattle.rules.specs.Boards.{paused_at}
 use Rattle.keys.specs.Places.{place_of, place_given, key_at, keys_after}
@@ -26,14 +23,14 @@ use Rattle.calls.specs.declared.reports.Report.{Report}
 use Rattle.calls.specs.declared.call.Call.{Call}
 use Rattle.calls.specs.declared.call.Call.TheVariants as call
 use Rattle.calls.specs.Model.{Model, slot_at, state_at, row_at}
-use Rattle.calls.specs.Sending.{sent_up, sent_down, up_admits, down_admits}
-use Rattle.calls.specs.Zones.{Done, started_model, if_up_room, start_by, start_in, start_call, let_go_by, let_go_in, let_go_call, down_by, down_from, down_call}
-use Rattle.calls.specs.Directories.{with_row, if_down_room, number_of, settled_report, up_by, up_from, up_call, take_up_by, take_up_call}
+use Rattle.calls.specs.Sending.{sent_down, up_admits, down_admits}
+use Rattle.calls.specs.Zones.{Done, started_model, start_by, start_in, start_call, let_go_by, let_go_in, let_go_call, down_by, down_from, down_call}
+use Rattle.calls.specs.Directories.{with_row, up_by, up_from, up_call, take_up_by, take_up_call}
 use Rattle.calls.specs.Outcomes.{done, called}
-use Rattle.calls.specs.Onlookers.{Onlooker, Entry, accepted, settled, answered, with_entry, serves, after_report, ReportFine, after_settled, after_number, after_answered, AnsweredFine, ResultFine, after_result}
+use Rattle.calls.specs.Onlookers.{Onlooker, Entry, accepted, settled, answered, with_entry, serves, after_report, ReportFine, after_settled, after_answered, AnsweredFine, ResultFine, after_result}
 use Rattle.calls.specs.Law.{NotMisplaced}
 use Rattle.coherence.proofs.Safety.{safe}
-use Rattle.lawful.proofs.Keys.{given, Given, known, next, place_is_at, at_within, unknown_is_nowhere}
+use Rattle.lawful.proofs.Keys.{given, Given, known, next, place_is_at, at_within}
 use Rattle.lawful.proofs.Lanes.{place_below, up_of_taken_up_here, down_of_taken_down_here}
 use Rattle.lawful.proofs.Numbers.{entry_here, entry_elsewhere}
 use Rattle.lawful.proofs.Refusals.{request_refused, let_go_refused, let_go_silent, take_up_refused, TakeUpNumber, place_served, nothing_waits, misplaced}
@@ -41,7 +38,7 @@ use Rattle.lawful.proofs.Systems.{value_of, system_at}
 use Rattle.lawful.proofs.Projections.{up_of, down_of}
 use Rattle.lawful.proofs.Invariant.{PoolInv}
 use Rattle.lawful.proofs.ZoneSteps.{line_at, let_go_step, down_step, down_answer_step, kept_answer}
-use Rattle.lawful.proofs.Starts.{SameKnowledge, inv_onlooker, placed, start_step, start_answer_step, own_answer}
+use Rattle.lawful.proofs.Starts.{inv_onlooker, placed, start_step, start_answer_step, own_answer}
 use Rattle.lawful.proofs.DirectorySteps.{up_unsettled, up_requester, up_settled, take_up_unsettled, take_up_requester, take_up_settled}
 
 -- what a call does is well: a refusal is not 17; what is accepted is fine, and keeps the invariant

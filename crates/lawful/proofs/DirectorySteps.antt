@@ -1,6 +1,6 @@
 -- What the directory does in the pool keeps the invariant: a delivery from an up lane, and a take-up.
-use Rattle.std.proofs.Common.{◌≡◌, ℕ, ◌+◌, ◌*◌, ◌<◌, ◌≤◌, Bool, true, false, cond, eqb, ltb, ◌⊎◌, List, [], ◌∷◌, ◌++◌, length, get_or, set, Some, None, Option, sym, refl, ap, ◌∙◌, subst, ⊎_elim, arith, length-set}
-use Rattle.std.proofs.lemmas.Bool.{eqb-true, eqb-false, lt-ltb, ltb-true, cases_eq}
+use Rattle.std.proofs.Common.{◌≡◌, ℕ, ◌+◌, ◌*◌, ◌<◌, Bool, true, false, cond, eqb, ltb, List, ◌++◌, length, get_or, Some, None, Option, sym, refl, ap, ◌∙◌, subst, ⊎_elim, arith, length-set}
+use Rattle.std.proofs.lemmas.Bool.{eqb-true, eqb-false, ltb-true, cases_eq}
 use Rattle.messages.specs.declared.assignments.Assignment.{Assignment}
 use Rattle.messages.specs.declared.requests.Request.{Request}
 use Rattle.messages.specs.declared.kinds.Down.{Down as DownKind}
@@ -13,11 +13,10 @@ use Rattle.directory.specs.TakeUp.{taken_up}
 use Rattle.transport.specs.declared.lanes.Lane.TheVariants.{Up}
 use Rattle.transport.specs.Lanes.{Lists, oldest, taken}
 use Rattle.keys.specs.Places.{place_of, key_at}
-use Rattle.calls.specs.declared.slots.Slot.{Slot}
-use Rattle.calls.specs.Model.{Model, slot_at, row_at, blank_slot}
+use Rattle.calls.specs.Model.{Model, row_at, blank_slot}
 use Rattle.calls.specs.Sending.{sent_down}
 use Rattle.calls.specs.Directories.{with_row}
-use Rattle.calls.specs.Onlookers.{Onlooker, Entry, accepted, settled, with_value, with_entry}
+use Rattle.calls.specs.Onlookers.{Onlooker, Entry, settled, with_value, with_entry}
 use Rattle.calls.specs.Law.{Outstanding}
 use Rattle.coherence.specs.System.{System, Pending, free, at}
 use Rattle.coherence.specs.System as one

@@ -1,5 +1,5 @@
 -- The invariant of a pool as an onlooker knows it: every place is coherent, and numbers, keys and values fit.
-use Rattle.std.proofs.Common.{◌≡◌, ℕ, ◌<◌, List, length, Some, None}
+use Rattle.std.proofs.Common.{◌≡◌, ℕ, ◌<◌, List, length, None}
 use Rattle.keys.specs.Places.{place_of, key_at}
 use Rattle.keys.specs.Promises.{Apart}
 use Rattle.calls.specs.Model.{Model}

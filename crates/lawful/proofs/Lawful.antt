@@ -1,33 +1,24 @@
 -- Every run obeys the law.
-use Rattle.std.proofs.Common.{◌≡◌, ℕ, ◌+◌, ◌*◌, ◌<◌, ◌≤◌, Bool, true, false, cond, ◌&&◌, eqb, ltb, List, [], ◌∷◌, length, get_or, Some, None, Option, sym, refl, ap, ◌∙◌, subst, ⊎_elim, arith}
-use Rattle.std.proofs.lemmas.Bool.{ltb-true, lt-ltb, eqb-false, cases_lt}
+use Rattle.std.proofs.Common.{◌≡◌, ℕ, ◌+◌, ◌<◌, Bool, true, false, cond, ◌&&◌, eqb, ltb, List, [], ◌∷◌, Some, None, Option, sym, refl, ap, ◌∙◌, arith}
+use Rattle.std.proofs.lemmas.Bool.{ltb-true, eqb-false}
 use Rattle.messages.specs.declared.assignments.Assignment.{Assignment}
 use Rattle.line.specs.declared.states.State.{State}
-use Rattle.line.specs.declared.states.State.TheVariants.{Invalid, Exclusive}
 use Rattle.line.specs.Questions.{readable, holds_exclusively, answers_put, any_assignment}
-use Rattle.transport.specs.Lanes.{Rule, all_empty, lane_at}
-use Rattle.keys.specs.Places.{place_of, key_at}
-use Rattle.calls.specs.declared.slots.Slot.{Slot}
+use Rattle.transport.specs.Lanes.{Rule, lane_at}
+use Rattle.keys.specs.Places.{place_of}
 use Rattle.calls.specs.declared.call.Call.{Call}
-use Rattle.calls.specs.Model.{Model, slot_at, state_at, row_at, blank_slot}
+use Rattle.calls.specs.Model.{Model, state_at}
 use Rattle.calls.specs.Questions.{reads, reads_at, holds, holds_at, place_in, quiet, lanes_empty, rows_calm}
 use Rattle.calls.specs.Outcomes.{called}
 use Rattle.calls.specs.Runs.{Event, trace, results, after_run}
 use Rattle.calls.specs.Onlookers.{Onlooker, Entry, unused, accepted, settled, answered, onlooking, after_all, after_result, NeverObjects}
-use Rattle.calls.specs.Opening.{Load, loaded_row, loaded_state, loaded_value, ZoneBelow, JustOpened, TiedTo}
-use Rattle.calls.specs.Law.{Outstanding, NoneMisplaced, Agrees, Law, Lawful}
-use Rattle.coherence.specs.System.{System, free, fresh, loaded}
-use Rattle.coherence.specs.System as one
-use Rattle.coherence.proofs.Invariant.{Inv}
-use Rattle.coherence.proofs.Same.{inv_same}
-use Rattle.coherence.proofs.Runs.{fresh_inv, loaded_inv}
+use Rattle.calls.specs.Law.{Outstanding, NoneMisplaced, Agrees, Lawful}
+use Rattle.coherence.specs.System.{free}
 use Rattle.coherence.proofs.Safety.{safe}
-use Rattle.lawful.proofs.Projections.{lane_of, up_lane, down_lane, up_of, down_of}
-use Rattle.lawful.proofs.Keys.{place_is_at, at_is_place, at_within}
-use Rattle.lawful.proofs.Lanes.{lanes_empty_lem, rows_calm_lem, places_below_empty, PlacesBelow}
-use Rattle.lawful.proofs.Numbers.{Numbers, Holder}
-use Rattle.lawful.proofs.Waits.{waits}
-use Rattle.lawful.proofs.Systems.{value_of, pending_by, slot_pending, line_of, pending_of, system_at, waits_at, number_at}
+use Rattle.lawful.proofs.Projections.{lane_of}
+use Rattle.lawful.proofs.Keys.{place_is_at}
+use Rattle.lawful.proofs.Lanes.{lanes_empty_lem, rows_calm_lem}
+use Rattle.lawful.proofs.Systems.{value_of, pending_by, system_at, number_at}
 use Rattle.lawful.proofs.Invariant.{PoolInv}
 use Rattle.lawful.proofs.ZoneSteps.{line_at, pending_at}
 use Rattle.lawful.proofs.Calls.{call_well}

@@ -1,5 +1,5 @@
 -- A run depends on its keys by their meanings only.
-use Rattle.std.proofs.Common.{◌≡◌, ℕ, List, [], ◌∷◌, map, Ok, Err, Option, Result, sym, refl, ap, ◌∙◌}
+use Rattle.std.proofs.Common.{◌≡◌, ℕ, List, [], ◌∷◌, map, Ok, Err, Option, Result, refl, ap, ◌∙◌}
 use Rattle.messages.specs.Refusals.{Facts}
 use Rattle.transport.specs.Lanes.{Rule}
 use Rattle.keys.specs.Places.{place_of, place_given, keys_after}

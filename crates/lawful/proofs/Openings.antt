@@ -1,26 +1,23 @@
 -- A pool as it is opened has the invariant.
-use Rattle.std.proofs.Common.{◌≡◌, ℕ, zero, suc, ◌+◌, ◌*◌, ◌<◌, ◌≤◌, Bool, true, false, cond, eqb, ltb, List, [], ◌∷◌, length, get_or, replicate, Some, None, Option, sym, refl, ap, ◌∙◌, subst, ⊎_elim, arith}
-use Rattle.std.specs.List.{slice_get}
-use Rattle.std.proofs.lemmas.Bool.{ltb-true, ltb-false, lt-ltb, eqb-true, cases_lt}
+use Rattle.std.proofs.Common.{◌≡◌, ℕ, zero, suc, ◌+◌, ◌*◌, ◌<◌, Bool, true, false, cond, eqb, ltb, List, [], ◌∷◌, length, get_or, replicate, Some, None, Option, sym, refl, ap, ◌∙◌, subst, arith}
+use Rattle.std.proofs.lemmas.Bool.{ltb-true, ltb-false, lt-ltb, eqb-true}
 use Rattle.messages.specs.declared.assignments.Assignment.{Assignment}
 use Rattle.messages.specs.declared.kinds.Message.{Message}
-use Rattle.line.specs.declared.states.State.{State}
 use Rattle.line.specs.declared.states.State.TheVariants.{Invalid, Exclusive}
 use Rattle.transport.specs.Lanes.{Lists, all_empty, lane_at}
-use Rattle.keys.specs.Places.{place_of, key_at}
-use Rattle.calls.specs.declared.slots.Slot.{Slot}
-use Rattle.calls.specs.Model.{Model, slot_at, state_at, row_at, blank_slot}
-use Rattle.calls.specs.Onlookers.{Onlooker, Entry, unused, onlooking}
+use Rattle.keys.specs.Places.{key_at}
+use Rattle.calls.specs.Model.{Model, state_at, blank_slot}
+use Rattle.calls.specs.Onlookers.{Onlooker, unused, onlooking}
 use Rattle.calls.specs.Opening.{Load, loaded_row, loaded_state, loaded_value, ZoneBelow, JustOpened, TiedTo}
-use Rattle.coherence.specs.System.{System, Pending, free, fresh, loaded, at}
+use Rattle.coherence.specs.System.{free, fresh, loaded}
 use Rattle.coherence.proofs.Invariant.{Inv}
 use Rattle.coherence.proofs.Same.{inv_same}
 use Rattle.coherence.proofs.Runs.{fresh_inv, loaded_inv}
-use Rattle.lawful.proofs.Projections.{lane_of, up_of, down_of}
+use Rattle.lawful.proofs.Projections.{lane_of}
 use Rattle.lawful.proofs.Keys.{at_is_place}
 use Rattle.lawful.proofs.Lanes.{places_below_empty, PlacesBelow}
 use Rattle.lawful.proofs.Waits.{waits}
-use Rattle.lawful.proofs.Systems.{value_of, pending_by, slot_pending, line_of, pending_of, system_at, waits_at, number_at}
+use Rattle.lawful.proofs.Systems.{value_of, pending_by, slot_pending, line_of, pending_of, system_at, waits_at}
 use Rattle.lawful.proofs.Invariant.{PoolInv}
 
 no_lane : (i : ℕ) → lane_at all_empty i ≡ []

@@ -1,5 +1,5 @@
 -- One place of a pool: its messages of each lane, in their order, and its lines.
-use Rattle.std.proofs.Common.{ℕ, ◌+◌, Bool, true, false, cond, eqb, ltb, List, [], ◌∷◌, map, Some, None, filter, Option}
+use Rattle.std.proofs.Common.{ℕ, ◌+◌, cond, eqb, ltb, List, [], ◌∷◌, map, Some, None, filter, Option}
 use Rattle.messages.specs.declared.kinds.Up.{Up}
 use Rattle.messages.specs.declared.kinds.Down.{Down}
 use Rattle.messages.specs.declared.kinds.Kind.{Kind}

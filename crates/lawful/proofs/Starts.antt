@@ -1,8 +1,6 @@
 -- A start keeps the invariant.
-use Rattle.std.proofs.Common.{◌≡◌, ℕ, ◌+◌, ◌*◌, ◌<◌, ◌≤◌, Bool, true, false, cond, eqb, ◌⊎◌, List, [], ◌∷◌, ◌++◌, length, Some, None, Option, sym, refl, ap, ◌∙◌, subst, ⊎_elim, arith, length-set}
-use Rattle.std.specs.Str.{bytes_eq}
-use Rattle.std.proofs.lemmas.Bool.{eqb-true, eqb-false, lt-ltb, cases_eq}
-use Rattle.messages.specs.declared.assignments.Assignment.{Assignment}
+use Rattle.std.proofs.Common.{◌≡◌, ℕ, ◌+◌, ◌<◌, Bool, true, false, cond, eqb, List, [], ◌∷◌, ◌++◌, Some, None, Option, sym, refl, ap, ◌∙◌, subst, arith, length-set}
+use Rattle.std.proofs.lemmas.Bool.{eqb-true, eqb-false, lt-ltb}
 use Rattle.messages.specs.declared.requests.Request.{Request}
 use Rattle.messages.specs.declared.requests.Answer.{Answer}
 use Rattle.messages.specs.declared.kinds.Up.{Up as UpKind}
@@ -15,10 +13,9 @@ use Rattle.keys.specs.Places.{place_of, key_at, keys_after}
 use Rattle.keys.specs.Promises.{Apart}
 use Rattle.calls.specs.declared.slots.Slot.{Slot}
 use Rattle.calls.specs.Model.{Model, slot, slot_at, state_at}
-use Rattle.calls.specs.Sending.{sent_up}
 use Rattle.calls.specs.Zones.{started_model}
 use Rattle.calls.specs.Law.{Outstanding}
-use Rattle.calls.specs.Onlookers.{Onlooker, Entry, accepted, settled, answered, with_value, with_entry}
+use Rattle.calls.specs.Onlookers.{Onlooker, Entry, accepted, answered, with_value, with_entry}
 use Rattle.coherence.specs.System.{System, Pending, free}
 use Rattle.coherence.specs.System as one
 use Rattle.coherence.specs.Steps.{after_request, central_at_start, pending_at_start}
@@ -27,14 +24,14 @@ use Rattle.coherence.proofs.Invariant.{Inv}
 use Rattle.coherence.proofs.Same.{inv_same}
 use Rattle.coherence.proofs.LineSteps.{request_keeps}
 use Rattle.coherence.proofs.Safety.{safe}
-use Rattle.lawful.proofs.Projections.{up_of, down_of}
-use Rattle.lawful.proofs.Keys.{Given, known, next, place_is_at, at_is_place, unknown_is_nowhere, at_within, apart_after, key_at_push_last, key_at_push_before, same_key, other_key}
+use Rattle.lawful.proofs.Projections.{up_of}
+use Rattle.lawful.proofs.Keys.{Given, known, next, place_is_at, at_is_place, unknown_is_nowhere, at_within, apart_after, key_at_push_last, key_at_push_before}
 use Rattle.lawful.proofs.Lanes.{length_sent_up, up_of_sent_up_here, up_of_sent_up_elsewhere, down_of_sent_up, places_below_sent_up}
-use Rattle.lawful.proofs.Numbers.{Numbers, Here, numbers_same, numbers_started, numbers_answered_at_start, KeyOf, entry_here, entry_elsewhere}
+use Rattle.lawful.proofs.Numbers.{Numbers, numbers_same, numbers_started, numbers_answered_at_start, KeyOf, entry_here, entry_elsewhere}
 use Rattle.lawful.proofs.Waits.{waits, Starts, begins, answers, request_starts}
 use Rattle.lawful.proofs.Systems.{value_of, pending_by, pending_of, system_at, waits_at, number_at, kept_entries, line_here, line_elsewhere, value_here, value_elsewhere}
 use Rattle.lawful.proofs.Invariant.{PoolInv}
-use Rattle.lawful.proofs.ZoneSteps.{line_at, pending_at, others_as_before, here_waits, here_number, pending_here, pending_elsewhere, each_place, at_same, up_kinds_lem}
+use Rattle.lawful.proofs.ZoneSteps.{line_at, pending_at, others_as_before, here_waits, here_number, pending_here, pending_elsewhere, each_place, up_kinds_lem}
 
 -- ── onlookers that know the same ──
 

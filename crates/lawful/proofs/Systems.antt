@@ -1,5 +1,5 @@
 -- One place of a pool as the system of one key, and what a write to one slot or one value does to it.
-use Rattle.std.proofs.Common.{◌≡◌, ℕ, ◌+◌, ◌*◌, ◌<◌, Bool, true, false, cond, eqb, ltb, List, length, get_or, set, Some, None, Option, sym, refl, ap, ◌∙◌, arith}
+use Rattle.std.proofs.Common.{◌≡◌, ℕ, ◌+◌, ◌*◌, ◌<◌, Bool, true, false, cond, eqb, ltb, List, length, get_or, set, Some, None, Option, refl, ap, ◌∙◌, arith}
 use Rattle.std.specs.Str.{bytes_eq}
 use Rattle.std.proofs.lemmas.Bool.{eqb-true, ltb-true}
 use Rattle.messages.specs.declared.assignments.Assignment.{Assignment}
@@ -9,7 +9,7 @@ use Rattle.line.specs.declared.states.State.{State}
 use Rattle.line.specs.declared.states.State.TheVariants.{Invalid}
 use Rattle.keys.specs.Places.{key_at}
 use Rattle.calls.specs.declared.slots.Slot.{Slot}
-use Rattle.calls.specs.Model.{Model, slot, slot_at, state_at, row_at, blank_slot}
+use Rattle.calls.specs.Model.{Model, row_at, blank_slot}
 use Rattle.calls.specs.Onlookers.{Onlooker, Entry, unused, accepted, settled, answered, with_value}
 use Rattle.coherence.specs.System.{System, Pending, free}
 use Rattle.coherence.specs.System as one

@@ -1,5 +1,5 @@
 -- Which lines wait, and what each step makes of that.
-use Rattle.std.proofs.Common.{◌≡◌, ℕ, Bool, true, false, Some, None, Ok, Err, Option, Result, sym, refl, ◌∙◌, subst}
+use Rattle.std.proofs.Common.{◌≡◌, ℕ, Bool, true, false, Some, None, Ok, Err, Option, Result, sym, refl, ◌∙◌}
 use Rattle.messages.specs.declared.assignments.Assignment.{Assignment}
 use Rattle.messages.specs.declared.requests.Request.{Request}
 use Rattle.messages.specs.declared.requests.Request.TheVariants as request
@@ -9,7 +9,6 @@ use Rattle.messages.specs.declared.kinds.Ask.{Ask}
 use Rattle.messages.specs.declared.kinds.Ask.TheVariants.{SendData, SendDataAndInvalidate, Invalidate}
 use Rattle.messages.specs.declared.kinds.Reply.{Reply}
 use Rattle.messages.specs.declared.kinds.Reply.TheVariants.{DataFound, ExclusionMade, NoDataFound}
-use Rattle.messages.specs.declared.kinds.Down.{Down}
 use Rattle.messages.specs.declared.kinds.Down.TheVariants as down
 use Rattle.messages.specs.declared.kinds.Kind.{Kind}
 use Rattle.messages.specs.declared.kinds.Kind.TheVariants as kind

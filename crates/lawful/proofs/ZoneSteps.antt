@@ -1,40 +1,35 @@
 -- What a zone does in the pool keeps the invariant: a start, a let-go, a delivery from its down lane.
-use Rattle.std.proofs.Common.{◌≡◌, ℕ, ◌+◌, ◌*◌, ◌<◌, ◌≤◌, Bool, true, false, cond, eqb, ltb, ◌⊎◌, List, [], ◌∷◌, ◌++◌, length, get_or, set, Some, None, Option, sym, refl, ap, ◌∙◌, subst, inl, inr, ⊎_elim, arith, length-set}
-use Rattle.std.proofs.lemmas.Bool.{eqb-true, eqb-false, lt-ltb, ltb-true}
-use Rattle.messages.specs.declared.assignments.Assignment.{Assignment}
+use Rattle.std.proofs.Common.{◌≡◌, ℕ, ◌+◌, ◌*◌, ◌<◌, Bool, true, false, cond, eqb, ◌⊎◌, List, ◌++◌, length, get_or, set, Some, None, Option, sym, refl, ap, ◌∙◌, subst, inl, inr, ⊎_elim, length-set}
+use Rattle.std.proofs.lemmas.Bool.{eqb-true, eqb-false, lt-ltb}
 use Rattle.messages.specs.declared.requests.Request.{Request}
 use Rattle.messages.specs.declared.requests.Answer.{Answer}
 use Rattle.messages.specs.declared.kinds.Up.{Up as UpKind}
 use Rattle.messages.specs.declared.kinds.Kind.{Kind}
 use Rattle.messages.specs.declared.kinds.Message.{Message}
-use Rattle.messages.specs.Central as central
 use Rattle.line.specs.declared.states.State.{State}
-use Rattle.line.specs.Outcomes.{Outcome, refused, moved}
-use Rattle.line.specs.Requested.{requested}
+use Rattle.line.specs.Outcomes.{moved}
 use Rattle.line.specs.Received.{received}
 use Rattle.line.specs.LetGo.{let_go}
-use Rattle.transport.specs.declared.lanes.Lane.TheVariants.{Up, Down}
+use Rattle.transport.specs.declared.lanes.Lane.TheVariants.{Down}
 use Rattle.transport.specs.Lanes.{Lists, oldest, taken}
-use Rattle.keys.specs.Places.{place_of, key_at, keys_after}
 use Rattle.calls.specs.declared.slots.Slot.{Slot}
-use Rattle.calls.specs.Model.{Model, slot, slot_at, state_at, row_at, blank_slot}
+use Rattle.calls.specs.Model.{Model, slot, slot_at, state_at, blank_slot}
 use Rattle.calls.specs.Sending.{sent_up}
-use Rattle.calls.specs.Zones.{with_slot, started_model}
-use Rattle.calls.specs.Onlookers.{Onlooker, Entry, unused, accepted, settled, answered, with_value, with_entry}
+use Rattle.calls.specs.Zones.{with_slot}
+use Rattle.calls.specs.Onlookers.{Onlooker, Entry, answered, with_entry}
 use Rattle.coherence.specs.System.{System, Pending, free}
-use Rattle.coherence.specs.System as one
 use Rattle.coherence.specs.Steps.{after_request, after_let_go, after_down, pending_at_delivery}
 use Rattle.coherence.specs.Steps as steps
 use Rattle.coherence.proofs.Invariant.{Inv}
-use Rattle.coherence.proofs.Same.{Same, inv_same}
-use Rattle.coherence.proofs.LineSteps.{request_keeps, let_go_keeps, down_keeps}
+use Rattle.coherence.proofs.Same.{inv_same}
+use Rattle.coherence.proofs.LineSteps.{let_go_keeps, down_keeps}
 use Rattle.coherence.proofs.Safety.{safe}
 use Rattle.lawful.proofs.Projections.{up_of, down_of, up_kinds}
 use Rattle.lawful.proofs.Lanes.{PlacesBelow, length_sent_up, length_taken, up_of_sent_up_here, up_of_sent_up_elsewhere, down_of_sent_up, down_of_taken_down_here, down_of_taken_down_other_zone, down_of_taken_down_elsewhere, up_of_taken_down, places_below_sent_up, places_below_taken}
-use Rattle.lawful.proofs.Numbers.{Numbers, Here, Elsewhere, is_here, numbers_same, numbers_started, numbers_answered, numbers_answered_at_start, KeyOf, entry_here, entry_elsewhere}
-use Rattle.lawful.proofs.Waits.{waits, Starts, begins, answers, request_starts, Drops, goes, let_go_drops, Takes, goes_on, ends_it, received_takes}
+use Rattle.lawful.proofs.Numbers.{Here, Elsewhere, is_here, numbers_same, numbers_answered, entry_elsewhere}
+use Rattle.lawful.proofs.Waits.{waits, Drops, goes, let_go_drops, Takes, goes_on, ends_it, received_takes}
 use Rattle.lawful.proofs.Tables.{slot_set_here, slot_set_other_zone, slot_set_other_place}
-use Rattle.lawful.proofs.Systems.{value_of, pending_by, slot_pending, line_of, pending_of, system_at, waits_at, number_at, line_here, line_elsewhere, pending_kept, value_here, value_elsewhere, IsSettled, is_settled}
+use Rattle.lawful.proofs.Systems.{pending_by, slot_pending, line_of, pending_of, system_at, waits_at, number_at, line_here, line_elsewhere, pending_kept, IsSettled, is_settled}
 use Rattle.lawful.proofs.Invariant.{PoolInv}
 
 -- the line of a zone below 8

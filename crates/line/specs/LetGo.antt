@@ -1,5 +1,5 @@
 -- A zone lets go of its copy: only from SU, with a report; in any other state refusal 12.
-use Rattle.std.specs.Prelude.{ℕ, Some, None}
+use Rattle.std.specs.Prelude.{Some, None}
 use Rattle.messages.specs.declared.kinds.Up.TheVariants.{Report}
 use Rattle.line.specs.declared.states.State.{State}
 use Rattle.line.specs.declared.states.State.TheVariants.{Invalid, Exclusive, SharedOwned, SharedUnowned, WaitingExclusion, WaitingExclusionIfAny, WaitingPurge, WaitingSharedData, WaitingExclusiveData, WaitingExclusiveDataIfAny, WaitingPurgeData}

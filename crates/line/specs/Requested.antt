@@ -1,5 +1,5 @@
 -- What a user's request does at a line: the table of requests by states.
-use Rattle.std.specs.Prelude.{ℕ, Some, None}
+use Rattle.std.specs.Prelude.{Some}
 use Rattle.messages.specs.declared.assignments.Assignment.{Assignment}
 use Rattle.messages.specs.declared.requests.Request.{Request}
 use Rattle.messages.specs.declared.requests.Request.TheVariants as request

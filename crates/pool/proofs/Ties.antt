@@ -1,8 +1,8 @@
 -- Loading ties the register's keys to what is loaded at their places.
-use Rattle.std.proofs.Common.{◌≡◌, ℕ, ◌+◌, ◌*◌, ◌<◌, ◌≤◌, Bool, true, false, cond, ltb, ◌≢◌, List, [], ◌∷◌, ◌++◌, map, length, get_or, set, replicate, IfOk, Some, None, Ok, Err, Option, Result, sym, refl, ap, ◌∙◌, subst, ⊎_elim, arith}
+use Rattle.std.proofs.Common.{◌≡◌, ℕ, ◌+◌, ◌*◌, ◌<◌, ◌≤◌, Bool, true, false, cond, ltb, ◌≢◌, List, [], ◌∷◌, map, length, IfOk, Some, None, Ok, Err, Option, Result, sym, refl, ap, ◌∙◌, subst, ⊎_elim, arith}
 use Rattle.std.specs.Str.{bytes_eq}
 use Rattle.std.proofs.lemmas.List.{length-set, length_push, get_or-set_same, get_or-set_other, get_or_past}
-use Rattle.std.proofs.lemmas.Bool.{cases_lt, cases_eq, cond-true, cond-false, ltb-true}
+use Rattle.std.proofs.lemmas.Bool.{cases_lt, ltb-true}
 use Rattle.messages.specs.declared.assignments.Assignment.{Assignment}
 use Rattle.messages.specs.Refusals.{Facts}
 use Rattle.line.specs.declared.states.State.{State}
@@ -12,7 +12,7 @@ use Rattle.keys.specs.Places.{place_of, place_given, keys_after, key_at}
 use Rattle.keys.specs.Promises.{Apart, PlacesStay}
 use Rattle.keys.proofs.Promises.{places_stay, apart_none}
 use Rattle.keys.proofs.ByMeaning.{given_by_meaning, after_by_meaning}
-use Rattle.lawful.proofs.Keys.{same_key, other_key, key_itself, at_within, place_is_at, at_is_place, unknown_is_nowhere, Given, known, next, given, apart_after, key_at_push_last, key_at_push_before}
+use Rattle.lawful.proofs.Keys.{same_key, other_key, at_within, place_is_at, at_is_place, unknown_is_nowhere, Given, known, next, given, apart_after, key_at_push_last, key_at_push_before}
 use Rattle.rules.specs.declared.plan.Plan.{Plan}
 use Rattle.calls.specs.declared.slots.Slot.{Slot}
 use Rattle.calls.specs.declared.stock.Stock.{Stock}
@@ -20,7 +20,7 @@ use Rattle.calls.specs.declared.faults.Fault.{Fault}
 use Rattle.calls.specs.Faults.{about_zone, seen}
 use Rattle.calls.specs.Model.{Model, slot, blank_slot, state_at, row_at, fresh_row}
 use Rattle.calls.specs.Onlookers.{with_value}
-use Rattle.calls.specs.Opening.{Load, loaded_value, TiedTo}
+use Rattle.calls.specs.Opening.{loaded_value, TiedTo}
 use Rattle.pool.specs.Stocks.{unloaded, loaded_with, load_free, load_in, load_place, LoadOutcome, load_done, load_all, then_load, held_by, load_by, loads_in, stocked_from}
 use Rattle.pool.specs.Laws.{Tied}
 use Rattle.pool.proofs.Places.{replicate_each}

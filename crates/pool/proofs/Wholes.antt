@@ -1,5 +1,5 @@
 -- A whole run, from what each of its parts promises.
-use Rattle.std.proofs.Common.{◌≡◌, ℕ, List, [], map, length, Some, None, Ok, Err, Option, Result, sym, refl, ap, ◌∙◌, subst}
+use Rattle.std.proofs.Common.{◌≡◌, ℕ, List, [], map, None, Ok, Err, Option, Result, sym, ap, ◌∙◌, subst}
 use Rattle.messages.specs.declared.assignments.Assignment.{Assignment}
 use Rattle.messages.specs.Refusals.{Facts}
 use Rattle.transport.specs.Lanes.{Rule}
@@ -50,7 +50,7 @@ module _ {K : Type 0} (room : Rule) (meaning : K → List ℕ) (plan : Plan) (si
     law : LawfulWith room m (loads_in m) → Law (stock_values meaning stock) plan.first_number (trace (map (meant meaning) calls) told) last.0 (map meaning last.1)
     law every =
         subst (λ (p : Plan). Law (stock_values meaning stock) p.first_number (trace (map (meant meaning) calls) told) last.0 (map meaning last.1)) stocked.planned
-          (keyed_law room meaning size m ks calls told is last ends (stock_values meaning stock) stocked.tied every)
+        (keyed_law room meaning size m ks calls told is last ends (stock_values meaning stock) stocked.tied every)
 
     pub ran : LawfulWith room m (loads_in m) → Ran room meaning plan size stock calls told
     ran every = record { pool = last.0; keys = last.1; by_rules = rules; by_law = law every }

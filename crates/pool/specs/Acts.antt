@@ -1,5 +1,4 @@
 -- The steps of a line by one name.
-use Rattle.std.specs.Prelude.{ℕ}
 use Rattle.line.specs.declared.states.State.{State}
 use Rattle.line.specs.Outcomes.{Outcome, refused, moved}
 use Rattle.line.specs.Requested.{requested}

@@ -1,11 +1,10 @@
 -- What a call that is not refused does, decided before anything is written.
-use Rattle.std.specs.Prelude.{◌≡◌, ℕ, ◌+◌, ◌*◌, ◌<◌, true, List, set, Some, None, Ok, Err, Option, Result, slice_set}
+use Rattle.std.specs.Prelude.{◌≡◌, ℕ, ◌+◌, ◌*◌, ◌<◌, true, List, Some, None, Ok, Err, Option, Result, slice_set}
 use Rattle.directory.specs.Directory.{view_of}
 use Rattle.transport.specs.declared.lanes.Lane.{Lane}
 use Rattle.transport.specs.Lanes.{Lists, Rule, taken}
 use Rattle.calls.specs.declared.faults.Fault.{Fault}
 use Rattle.calls.specs.declared.slots.Counts.{Counts}
-use Rattle.calls.specs.declared.reports.Report.{Report}
 use Rattle.calls.specs.Faults.{facts_of}
 use Rattle.calls.specs.Model.{Model, slot, state_at}
 use Rattle.calls.specs.Sending.{sent_up, up_admits, sent_down, down_admits}

@@ -22,7 +22,7 @@ impl<T: Transport> Opened<T> {
         register: &mut Register<'_, K>,
         call: Call<K>,
     ) -> Result<Report, Fault>
-        ensures outcome { (seen result, model_of T.Transport self.new, in_use register.new) ≡ called T.Transport.room K.Key.meaning (length (row_of register.old)) (model_of T.Transport self.old) (in_use register.old) call }
+        ensures outcome { (seen result, model_of T.Transport self.new, in_use register.new) ≡ called T.room K.meaning (length (row_of register.old)) (model_of T.Transport self.old) (in_use register.old) call }
         ensures row { length (row_of register.new) ≡ length (row_of register.old) }
         ensures kept { RowKept register.old register.new }
         ensures refusal_changes_nothing { OnErr result ((model_of T.Transport self.new ≡ model_of T.Transport self.old) × (in_use register.new ≡ in_use register.old)) }
@@ -49,11 +49,11 @@ impl<T: Transport> Opened<T> {
         answers: &mut Vec<Result<Report, Fault>>,
     )
         requires { (answers.old.items ≡ []) × (length calls.now ≤ vec_capacity answers.old) }
-        ensures told { map seen answers.new.items ≡ results T.Transport.room K.Key.meaning (length (row_of register.old)) (model_of T.Transport self.old) (in_use register.old) calls.now }
-        ensures after { (model_of T.Transport self.new, in_use register.new) ≡ after_run T.Transport.room K.Key.meaning (length (row_of register.old)) (model_of T.Transport self.old) (in_use register.old) calls.now }
+        ensures told { map seen answers.new.items ≡ results T.room K.meaning (length (row_of register.old)) (model_of T.Transport self.old) (in_use register.old) calls.now }
+        ensures after { (model_of T.Transport self.new, in_use register.new) ≡ after_run T.room K.meaning (length (row_of register.old)) (model_of T.Transport self.old) (in_use register.old) calls.now }
         ensures row { length (row_of register.new) ≡ length (row_of register.old) }
         ensures kept { RowKept register.old register.new }
-        ensures law { LawfulRun K.Key.meaning (model_of T.Transport self.old) (in_use register.old) calls.now (map seen answers.new.items) (model_of T.Transport self.new) (in_use register.new) }
+        ensures law { LawfulRun K.meaning (model_of T.Transport self.old) (in_use register.old) calls.now (map seen answers.new.items) (model_of T.Transport self.new) (in_use register.new) }
     {
         for call in calls {
             let answer = self.call(register, *call);
@@ -68,11 +68,11 @@ impl<T: Transport> Opened<T> {
         calls: &[Call<K>],
         heap: Global,
     ) -> Result<Vec<Result<Report, Fault>>, AllocError>
-        ensures told { IfOk result (λ v. map seen v.items ≡ results T.Transport.room K.Key.meaning (length (row_of register.old)) (model_of T.Transport self.old) (in_use register.old) calls.now) }
-        ensures after { OnOk result ((model_of T.Transport self.new, in_use register.new) ≡ after_run T.Transport.room K.Key.meaning (length (row_of register.old)) (model_of T.Transport self.old) (in_use register.old) calls.now) }
+        ensures told { IfOk result (λ v. map seen v.items ≡ results T.room K.meaning (length (row_of register.old)) (model_of T.Transport self.old) (in_use register.old) calls.now) }
+        ensures after { OnOk result ((model_of T.Transport self.new, in_use register.new) ≡ after_run T.room K.meaning (length (row_of register.old)) (model_of T.Transport self.old) (in_use register.old) calls.now) }
         ensures row { length (row_of register.new) ≡ length (row_of register.old) }
         ensures kept { RowKept register.old register.new }
-        ensures law { IfOk result (λ v. LawfulRun K.Key.meaning (model_of T.Transport self.old) (in_use register.old) calls.now (map seen v.items) (model_of T.Transport self.new) (in_use register.new)) }
+        ensures law { IfOk result (λ v. LawfulRun K.meaning (model_of T.Transport self.old) (in_use register.old) calls.now (map seen v.items) (model_of T.Transport self.new) (in_use register.new)) }
         ensures refusal_changes_nothing { OnErr result ((model_of T.Transport self.new ≡ model_of T.Transport self.old) × (in_use register.new ≡ in_use register.old)) }
     {
         let mut answers = Vec::with_capacity(heap, calls.len())?;

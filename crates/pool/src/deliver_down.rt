@@ -81,7 +81,7 @@ impl<T: Transport> Opened<T> {
 
     // Delivers the oldest message of a zone's down lane.
     pub fn deliver_down(&mut self, zone: u8) -> Result<Report, Fault>
-        ensures outcome { (seen result, model_of T.Transport self.new) ≡ done_keyless (model_of T.Transport self.old) (down_call T.Transport.room (model_of T.Transport self.old) zone) }
+        ensures outcome { (seen result, model_of T.Transport self.new) ≡ done_keyless (model_of T.Transport self.old) (down_call T.room (model_of T.Transport self.old) zone) }
         ensures refusal_changes_nothing { OnErr result (model_of T.Transport self.new ≡ model_of T.Transport self.old) }
     {
         let change = self.decide_down(zone)?;

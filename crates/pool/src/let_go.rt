@@ -75,7 +75,7 @@ impl<T: Transport> Opened<T> {
         zone: u8,
         key: K,
     ) -> Result<Report, Fault>
-        ensures outcome { (seen result, model_of T.Transport self.new, in_use register.now) ≡ done (model_of T.Transport self.old) (in_use register.now) (in_use register.now) (let_go_call T.Transport.room (model_of T.Transport self.old) (place_of K.Key.meaning (in_use register.now) key) zone) }
+        ensures outcome { (seen result, model_of T.Transport self.new, in_use register.now) ≡ done (model_of T.Transport self.old) (in_use register.now) (in_use register.now) (let_go_call T.room (model_of T.Transport self.old) (place_of K.meaning (in_use register.now) key) zone) }
         ensures refusal_changes_nothing { OnErr result (model_of T.Transport self.new ≡ model_of T.Transport self.old) }
     {
         let change = self.decide_let_go(register.find(&key), zone)?;

@@ -71,7 +71,7 @@ impl<T: Transport> Opened<T> {
         zone: u8,
         key: K,
     ) -> Option<Assignment>
-        ensures { result ≡ reads K.Key.meaning (model_of T.Transport self.now) (in_use register.now) zone key }
+        ensures { result ≡ reads K.meaning (model_of T.Transport self.now) (in_use register.now) zone key }
     {
         match self.line_at(zone, register.find(&key)) {
             Some(line) => line.readable(),
@@ -86,7 +86,7 @@ impl<T: Transport> Opened<T> {
         zone: u8,
         key: K,
     ) -> bool
-        ensures { result ≡ holds K.Key.meaning (model_of T.Transport self.now) (in_use register.now) zone key }
+        ensures { result ≡ holds K.meaning (model_of T.Transport self.now) (in_use register.now) zone key }
     {
         match self.line_at(zone, register.find(&key)) {
             Some(line) => line.holds_exclusively(),

@@ -47,7 +47,7 @@ pub fn run<T: Transport + Drop, K: Key + Copy>(
     calls: &[Call<K>],
     heap: Global,
 ) -> Result<Vec<Result<Report, Fault>>, RunFault>
-    ensures { MatchResult result (λ v. Ran T.Transport.room K.Key.meaning plan (length row.old) stock.now calls.now (map seen v.items)) (λ f. StoppedBy T.Transport.room K.Key.meaning plan (length row.old) stock.now calls.now (stop_facts f)) }
+    ensures { MatchResult result (λ v. Ran T.room K.meaning plan (length row.old) stock.now calls.now (map seen v.items)) (λ f. StoppedBy T.room K.meaning plan (length row.old) stock.now calls.now (stop_facts f)) }
 {
     let mut answers = Vec::with_capacity(heap, calls.len())?;
     let mut register = Register::new(row);

@@ -131,7 +131,7 @@ impl<T: Transport> Opened<T> {
         key: K,
         request: Request,
     ) -> Result<Report, Fault>
-        ensures outcome { (seen result, model_of T.Transport self.new, in_use register.new) ≡ done (model_of T.Transport self.old) (in_use register.old) (keys_after K.Key.meaning (in_use register.old) (length (row_of register.old)) key) (start_call T.Transport.room (model_of T.Transport self.old) (place_given K.Key.meaning (in_use register.old) (length (row_of register.old)) key) board.now zone request) }
+        ensures outcome { (seen result, model_of T.Transport self.new, in_use register.new) ≡ done (model_of T.Transport self.old) (in_use register.old) (keys_after K.meaning (in_use register.old) (length (row_of register.old)) key) (start_call T.room (model_of T.Transport self.old) (place_given K.meaning (in_use register.old) (length (row_of register.old)) key) board.now zone request) }
         ensures row { length (row_of register.new) ≡ length (row_of register.old) }
         ensures kept { RowKept register.old register.new }
         ensures refusal_changes_nothing { OnErr result ((model_of T.Transport self.new ≡ model_of T.Transport self.old) × (in_use register.new ≡ in_use register.old)) }

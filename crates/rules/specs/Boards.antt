@@ -1,5 +1,5 @@
 -- The pause board: a mark for each of the eight zones. A zone above 7 has no mark: it is not paused, and marking it changes nothing.
-use Rattle.std.specs.Prelude.{ℕ, Bool, false, cond, set, Ok, Err, Result, slice_index_or, slice_set}
+use Rattle.std.specs.Prelude.{ℕ, Bool, false, cond, Ok, Err, Result, slice_index_or, slice_set}
 use Rattle.rules.specs.declared.board.PauseBoard.{PauseBoard}
 
 -- whether a zone is paused

@@ -1,5 +1,5 @@
 -- What a transport means: for each of the 16 lanes the waiting messages, oldest first. What each call on it comes to.
-use Rattle.std.specs.Prelude.{ℕ, ◌+◌, Bool, true, false, cond, List, [], ◌∷◌, ◌++◌, length, drop, set, replicate, Some, None, Ok, Err, Option, Result, nat_lt, slice_index_or, slice_set}
+use Rattle.std.specs.Prelude.{ℕ, ◌+◌, Bool, true, false, cond, List, [], ◌∷◌, ◌++◌, length, drop, replicate, Some, None, Ok, Err, Option, Result, nat_lt, slice_index_or, slice_set}
 use Rattle.messages.specs.declared.kinds.Message.{Message}
 use Rattle.messages.specs.Refusals.{Facts}
 use Rattle.transport.specs.declared.faults.Subject.TheVariants.{Zone}

@@ -1,5 +1,5 @@
 -- The laws of a room rule, and the rules of the two backplanes with their sizes.
-use Rattle.std.specs.Prelude.{◌≡◌, ℕ, zero, suc, ◌+◌, Bool, true, false, cond, ◌&&◌, length, set, sum_by, count_by, nat_le, nat_lt, slice_index_or, slice_set}
+use Rattle.std.specs.Prelude.{◌≡◌, ℕ, zero, suc, ◌+◌, Bool, true, false, cond, ◌&&◌, length, sum_by, count_by, nat_le, nat_lt, slice_index_or, slice_set}
 use Rattle.messages.specs.declared.kinds.Message.{Message}
 use Rattle.transport.specs.Lanes.{Lists, Marks, Rule, lane_at, joined_at, removed_at, all_empty}
 

@@ -22,7 +22,7 @@ impl<T: Transport + Drop> Loading<T> {
     pub fn open(self) -> Opened<T>
         ensures model { model_of T.Transport result ≡ opens_as self }
         ensures as_loaded { JustOpened (model_of T.Transport result) (loads_in (model_of T.Transport result)) }
-        ensures law { LawfulWith T.Transport.room (model_of T.Transport result) (loads_in (model_of T.Transport result)) }
+        ensures law { LawfulWith T.room (model_of T.Transport result) (loads_in (model_of T.Transport result)) }
     {
         let Loading {
             plan,

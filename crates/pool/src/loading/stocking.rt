@@ -63,7 +63,7 @@ impl<T: Transport + Drop> Loading<T> {
         register: &mut Register<'_, K>,
         stock: Stock<K>,
     ) -> Result<(), Fault>
-        ensures outcome { (seen result, opens_as self.new, in_use register.new) ≡ load_one K.Key.meaning (length (row_of register.old)) (opens_as self.old) (in_use register.old) stock }
+        ensures outcome { (seen result, opens_as self.new, in_use register.new) ≡ load_one K.meaning (length (row_of register.old)) (opens_as self.old) (in_use register.old) stock }
         ensures lanes { T.waiting self.new.transport ≡ T.waiting self.old.transport }
         ensures row { length (row_of register.new) ≡ length (row_of register.old) }
         ensures kept { RowKept register.old register.new }
@@ -81,10 +81,10 @@ impl<T: Transport + Drop> Loading<T> {
         register: &mut Register<'_, K>,
         stock: &[Stock<K>],
     ) -> Result<(), Fault>
-        ensures outcome { (seen result, opens_as self.new, in_use register.new) ≡ load_all K.Key.meaning (length (row_of register.old)) (opens_as self.old) (in_use register.old) stock.now }
+        ensures outcome { (seen result, opens_as self.new, in_use register.new) ≡ load_all K.meaning (length (row_of register.old)) (opens_as self.old) (in_use register.old) stock.now }
         ensures lanes { T.waiting self.new.transport ≡ T.waiting self.old.transport }
         ensures row { RowKept register.old register.new }
-        ensures tied { (values : List ℕ → Option Assignment) → Tied K.Key.meaning (opens_as self.old) (in_use register.old) values → OnOk result (Tied K.Key.meaning (opens_as self.new) (in_use register.new) (stocked_from K.Key.meaning values stock.now)) }
+        ensures tied { (values : List ℕ → Option Assignment) → Tied K.meaning (opens_as self.old) (in_use register.old) values → OnOk result (Tied K.meaning (opens_as self.new) (in_use register.new) (stocked_from K.meaning values stock.now)) }
     {
         for item in stock {
             self.load(register, *item)?;
@@ -98,11 +98,11 @@ impl<T: Transport + Drop> Loading<T> {
         register: &mut Register<'_, K>,
         stock: &[Stock<K>],
     ) -> Result<(), Fault>
-        ensures outcome { (seen result, opens_as self.new, in_use register.new) ≡ load_all K.Key.meaning (length (row_of register.old)) (opens_as self.old) (in_use register.old) stock.now }
+        ensures outcome { (seen result, opens_as self.new, in_use register.new) ≡ load_all K.meaning (length (row_of register.old)) (opens_as self.old) (in_use register.old) stock.now }
         ensures lanes { T.waiting self.new.transport ≡ T.waiting self.old.transport }
         ensures row { length (row_of register.new) ≡ length (row_of register.old) }
         ensures kept { RowKept register.old register.new }
-        ensures tied { (values : List ℕ → Option Assignment) → Tied K.Key.meaning (opens_as self.old) (in_use register.old) values → OnOk result (Tied K.Key.meaning (opens_as self.new) (in_use register.new) (stocked_from K.Key.meaning values stock.now)) }
+        ensures tied { (values : List ℕ → Option Assignment) → Tied K.meaning (opens_as self.old) (in_use register.old) values → OnOk result (Tied K.meaning (opens_as self.new) (in_use register.new) (stocked_from K.meaning values stock.now)) }
     {
         self.load_each(register, stock)
     }

@@ -1,6 +1,6 @@
-use Rattle.std.proofs.Common.{◌≡◌, ℕ, List, [], length, Ok, sym, refl, ap, ◌∙◌}
+use Rattle.std.proofs.Common.{ℕ, length, Ok, ap, ◌∙◌}
 use Rattle.std.proofs.lemmas.Result.{err_from_is_err_and}
-use Rattle.keys.specs.Registers.{in_use, row_of}
+use Rattle.keys.specs.Registers.{in_use}
 use Rattle.calls.specs.Model.{Model}
 use Rattle.calls.specs.Runs.{results, after_run}
 use Rattle.pool.specs.Pools.{model_of}

@@ -1,4 +1,4 @@
-use Rattle.std.proofs.Common.{◌<◌, Some, sym, ap, arith}
+use Rattle.std.proofs.Common.{sym, arith}
 use Rattle.directory.proofs.ShortLists.{first_some}
 use Rattle.directory.proofs.lists.ShortList.first.Goals as goal
 

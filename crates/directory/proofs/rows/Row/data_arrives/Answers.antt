@@ -1,7 +1,7 @@
-use Rattle.std.proofs.Common.{◌≡◌, ap, ◌∙◌}
+use Rattle.std.proofs.Common.{ap, ◌∙◌}
 use Rattle.directory.specs.Lists.{items_of}
 use Rattle.directory.specs.Arrivals.{with_data}
-use Rattle.directory.proofs.Soundness.{Parts, after_fits, data_parts, struck_parts, row_parts}
+use Rattle.directory.proofs.Soundness.{after_fits, data_parts, struck_parts, row_parts}
 use Rattle.directory.proofs.rows.Row.data_arrives.Goals as goal
 use Rattle.directory.proofs.rows.Row.data_arrives.Goals.{in-Some-SendData, in-Some-SendDataAndInvalidate}
 

@@ -1,4 +1,4 @@
-use Rattle.std.proofs.Common.{◌≡◌, List, [], get_or, None, sym, ap, ◌∙◌, subst}
+use Rattle.std.proofs.Common.{List, [], get_or, None, sym, ap, ◌∙◌, subst}
 use Rattle.calls.specs.declared.slots.Slot.{Slot}
 use Rattle.calls.specs.Model.{Model, blank_slot}
 use Rattle.transport.specs.Lanes.{all_empty}

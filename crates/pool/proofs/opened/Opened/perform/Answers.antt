@@ -1,4 +1,4 @@
-use Rattle.std.proofs.Common.{◌≡◌, ℕ, ◌+◌, List, [], ◌∷◌, ◌++◌, map, length, drop, vec_items, Result, sym, refl, ap, ◌∙◌, append-nil, arith, rules}
+use Rattle.std.proofs.Common.{ℕ, ◌+◌, List, ◌++◌, map, length, vec_items, Result, sym, refl, ap, ◌∙◌, append-nil, arith}
 use Rattle.std.proofs.lemmas.List.{at_drop_all}
 use Rattle.keys.specs.Registers.{in_use, row_of}
 use Rattle.keys.proofs.Rows.{row_kept_same, row_kept_twice}

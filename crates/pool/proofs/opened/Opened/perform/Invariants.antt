@@ -1,4 +1,4 @@
-use Rattle.std.proofs.Common.{◌≡◌, ◌+◌, ◌-◌, ◌≤◌, ◌++◌, map, length, drop, vec_items, vec_len, vec_capacity}
+use Rattle.std.proofs.Common.{◌≡◌, ◌≤◌, ◌++◌, map, length, drop, vec_items, vec_len, vec_capacity}
 use Rattle.keys.specs.Registers.{in_use, row_of, RowKept}
 use Rattle.calls.specs.Faults.{seen}
 use Rattle.calls.specs.Runs.{results, after_run}

@@ -1,7 +1,7 @@
 use Rattle.std.proofs.Common.{◌≡◌, map, length, ◌∙◌, arith}
 use Rattle.std.proofs.lemmas.List.{length-map}
 use Rattle.directory.specs.Directory.{view_of}
-use Rattle.pool.proofs.Asking.{row_waits, row_is_calm, rows_all_calm}
+use Rattle.pool.proofs.Asking.{row_waits, rows_all_calm}
 use Rattle.pool.proofs.opened.Opened.rows_are_calm.Goals as goal
 
 pub returns-then-has_waiting : goal.returns-then-has_waiting

@@ -1,4 +1,4 @@
-use Rattle.std.proofs.Common.{◌≡◌, ◌<◌, length, arith}
+use Rattle.std.proofs.Common.{◌<◌, length, arith}
 use Rattle.pool.proofs.Rows.{view_at, unsound_none}
 use Rattle.pool.proofs.tables.Tables.record.Goals as goal
 
