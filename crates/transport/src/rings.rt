@@ -3,8 +3,7 @@ ghost use Rattle.std.specs.Prelude.{◌≡◌};
 ghost use Rattle.transport.specs.Lanes.{all_empty};
 ghost use Rattle.transport.specs.Ring.{bank_lists};
 ghost use Rattle.transport.specs.Room.{rings_room, ring_depth};
-ghost use Rattle.transport.specs.RingRoom.{bank_lanes, part_admitted, rest_admitted, take_admits, empty_admits};
-ghost use Rattle.std.proofs.Common.{arith};
+ghost use Rattle.transport.specs.RingRoom.{bank_lanes, part_admitted, rest_admitted, take_admits, empty_admits, ring_deep};
 
 use crate::bank::RingBank;
 use crate::faults::TransportFault;
@@ -45,7 +44,7 @@ impl Transport for Rings {
 
     ghost fewer = { take_admits ring_depth };
 
-    ghost empty = { empty_admits ring_depth (omega arith) };
+    ghost empty = { empty_admits ring_depth ring_deep };
 
     fn put(&mut self, lane: Lane, message: Message) -> Result<(), TransportFault> {
         self.bank.put(lane, message)
