@@ -1,7 +1,7 @@
 -- Lists of zones: what a strike leaves, and that at most eight zones are distinct and below eight.
 use Rattle.std.proofs.Common.{◌≡◌, ℕ, zero, suc, ◌+◌, ◌<◌, ◌≤◌, Bool, true, false, cond, not, eqb, ltb, List, [], ◌∷◌, ◌++◌, length, refl, arith}
 use borrow.Author.Tests.{eqb-false}
-use Rattle.std.specs.List.{AllByRecursion as All}
+use Rattle.std.specs.List.{AllByRecursion}
 use Rattle.std.proofs.lemmas.Bool.Decides.{nat_tests}
 use Rattle.directory.specs.Lists.{listed, without}
 use Rattle.directory.specs.Sound.{proper}
@@ -27,22 +27,22 @@ apart_without : (n : ℕ) (zs : List ℕ) → apart zs ≡ true → apart (witho
 apart_without n [] h = refl
 apart_without n (z ∷ zs) h = let ih = apart_without n zs in let u = unlisted_without n z zs in grind (arith, nat_tests)
 
-below_one : (n z : ℕ) (ys : List ℕ) → z < suc n → All (λ y. y < n) ys → (b : Bool) → eqb z n ≡ b → All (λ y. y < n) (cond (not b) (z ∷ ys) ys)
+below_one : (n z : ℕ) (ys : List ℕ) → z < suc n → AllByRecursion (λ y. y < n) ys → (b : Bool) → eqb z n ≡ b → AllByRecursion (λ y. y < n) (cond (not b) (z ∷ ys) ys)
 below_one n z ys h k true e = k
 below_one n z ys h k false e = let ne = eqb-false z n e in (omega arith, k)
 
-below_without : (n : ℕ) (zs : List ℕ) → All (λ z. z < suc n) zs → All (λ z. z < n) (without n zs)
+below_without : (n : ℕ) (zs : List ℕ) → AllByRecursion (λ z. z < suc n) zs → AllByRecursion (λ z. z < n) (without n zs)
 below_without n [] h = tt
 below_without n (z ∷ zs) h = below_one n z (without n zs) h.0 (below_without n zs h.1) (eqb z n) refl
 
 -- distinct numbers below n are at most n
-distinct_below : (n : ℕ) (zs : List ℕ) → All (λ z. z < n) zs → apart zs ≡ true → length zs ≤ n
+distinct_below : (n : ℕ) (zs : List ℕ) → AllByRecursion (λ z. z < n) zs → apart zs ≡ true → length zs ≤ n
 distinct_below zero [] b h = omega arith
 distinct_below zero (z ∷ zs) b h = absurd (omega (arith, b.0))
 distinct_below (suc n) zs b h =
     omega (arith, length_without n zs h, distinct_below n (without n zs) (below_without n zs b) (apart_without n zs h))
 
-proper_below : (zs : List ℕ) → proper zs ≡ true → All (λ z. z < 8) zs
+proper_below : (zs : List ℕ) → proper zs ≡ true → AllByRecursion (λ z. z < 8) zs
 proper_below [] h = tt
 proper_below (z ∷ zs) h = (grind (arith, nat_tests), proper_below zs (grind (arith, nat_tests)))
 

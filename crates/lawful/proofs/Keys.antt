@@ -3,7 +3,7 @@ use Rattle.std.proofs.Common.{◌≡◌, ℕ, zero, suc, ◌+◌, ◌<◌, Bool,
 use Rattle.std.specs.Str.{bytes_eq}
 use Rattle.std.proofs.lemmas.Slice.Eq.{bytes_eq-Decides}
 use Rattle.std.proofs.lemmas.List.{map-id}
-use Rattle.std.proofs.lemmas.Option.{slice_get-get_or, slice_get_past as nth_past}
+use Rattle.std.proofs.lemmas.Option.{slice_get-get_or, slice_get_past}
 use Rattle.std.proofs.lemmas.Bool.{cases_lt}
 use Rattle.std.proofs.lemmas.Bool.Decides.{not_from_Decides}
 use Rattle.keys.specs.Places.{first_from, place_of, known_or_next, place_given, keys_with, keys_after, key_at}
@@ -31,7 +31,7 @@ pub at_within : (ks : List Key) (key : Key) (p : ℕ) → key_at ks p ≡ Some k
 at_within ks key p e =
     ⊎_elim
     (λ h. h)
-    (λ h. let n = nth_past ks p h in let z : ◌≡◌ {A = ℕ} 0 1 = cc in absurd (omega arith))
+    (λ h. let n = slice_get_past ks p h in let z : ◌≡◌ {A = ℕ} 0 1 = cc in absurd (omega arith))
     (cases_lt p (length ks))
 
 pub at_means : (ks : List Key) (key : Key) (p : ℕ) → key_at ks p ≡ Some key → get_or ks p [] ≡ key

@@ -1,6 +1,6 @@
 -- What a sending and a take do to the messages of one place, lane by lane.
 use Rattle.std.proofs.Common.{◌≡◌, ℕ, zero, suc, ◌+◌, ◌<◌, ◌≤◌, Bool, true, false, cond, ◌&&◌, eqb, ltb, List, [], ◌∷◌, ◌++◌, map, length, get_or, drop, set, replicate, is_some, Some, None, filter, Option, sym, refl, ap, ◌∙◌, subst, ⊎_elim, arith}
-use Rattle.std.specs.List.{AllByRecursion as All}
+use Rattle.std.specs.List.{AllByRecursion}
 use Rattle.std.proofs.lemmas.List.Elements.{filter-append}
 use Rattle.std.proofs.ByRecursion.{All-push, All-drop}
 use Rattle.std.proofs.lemmas.List.{length-set, get_or-set_same, get_or-set_other, get_or_past, set_past, append-nil, map-append}
@@ -410,16 +410,16 @@ outcome_length_taken_up d to x d' e = subst EightZones e (takes_up_eight d.list 
 -- ── each message is about one of 32 places ──
 
 abbrev pub PlacesBelow : Lists → Type 0
-PlacesBelow lists = (i : ℕ) → All (λ x. x.place < 32) (lane_at lists i)
+PlacesBelow lists = (i : ℕ) → AllByRecursion (λ x. x.place < 32) (lane_at lists i)
 
-places_below_set : (lists : Lists) (i : ℕ) (xs : List Message) → All (λ x. x.place < 32) xs → PlacesBelow lists → PlacesBelow (set lists i xs)
+places_below_set : (lists : Lists) (i : ℕ) (xs : List Message) → AllByRecursion (λ x. x.place < 32) xs → PlacesBelow lists → PlacesBelow (set lists i xs)
 places_below_set lists i xs new old j =
     ⊎_elim
     (λ is. ⊎_elim
-    (λ h. subst (λ k. All (λ x. x.place < 32) (lane_at (set lists i xs) k)) (sym is) (subst (All (λ x. x.place < 32)) (sym (get_or-set_same lists i xs [] h)) new))
-    (λ h. subst (λ ls. All (λ x. x.place < 32) (lane_at ls j)) (sym (set_past lists i xs h)) (old j))
+    (λ h. subst (λ k. AllByRecursion (λ x. x.place < 32) (lane_at (set lists i xs) k)) (sym is) (subst (AllByRecursion (λ x. x.place < 32)) (sym (get_or-set_same lists i xs [] h)) new))
+    (λ h. subst (λ ls. AllByRecursion (λ x. x.place < 32) (lane_at ls j)) (sym (set_past lists i xs h)) (old j))
     (cases_lt i (length lists)))
-    (λ not. subst (All (λ x. x.place < 32)) (sym (get_or-set_other lists i j xs [] not)) (old j))
+    (λ not. subst (AllByRecursion (λ x. x.place < 32)) (sym (get_or-set_other lists i j xs [] not)) (old j))
     (cases_eq j i)
 
 places_below_joined : (lists : Lists) (i : ℕ) (m : Message) → m.place < 32 → PlacesBelow lists → PlacesBelow (joined_at lists i m)
@@ -449,7 +449,7 @@ places_below_sent_below lists p to (suc n) h below =
 pub places_below_sent_down : (lists : Lists) (p : ℕ) (to : List (Option DownKind)) → p < 32 → PlacesBelow lists → PlacesBelow (sent_down lists p to)
 places_below_sent_down lists p to h below = sent_down_lem PlacesBelow lists p to (places_below_sent_below lists p to 8 h below) (λ _. below)
 
-front_below : (xs : List Message) (x : Message) → oldest_of xs ≡ Some x → All (λ m. m.place < 32) xs → x.place < 32
+front_below : (xs : List Message) (x : Message) → oldest_of xs ≡ Some x → AllByRecursion (λ m. m.place < 32) xs → x.place < 32
 front_below [] x e all = let n : ◌≡◌ {A = ℕ} 0 1 = cc in absurd (omega arith)
 front_below (m ∷ ms) x e all = let is : m ≡ x = cc in subst (λ k. k.place < 32) is all.0
 
@@ -468,7 +468,7 @@ none_at (suc n) zero = refl
 none_at (suc n) (suc i) = none_at n i
 
 pub places_below_empty : PlacesBelow all_empty
-places_below_empty i = subst (All (λ x. x.place < 32)) (sym (none_at 16 i)) tt
+places_below_empty i = subst (AllByRecursion (λ x. x.place < 32)) (sym (none_at 16 i)) tt
 
 no_messages_lem : (xs : List Message) → no_messages xs ≡ true → xs ≡ []
 no_messages_lem [] e = refl

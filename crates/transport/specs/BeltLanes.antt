@@ -1,7 +1,7 @@
 -- The lists that the belt's entries show: how many messages they have, and what a push and a removal do to them.
 use Rattle.std.specs.Prelude.{◌≡◌, ℕ, zero, suc, ◌+◌, ◌-◌, ◌<◌, ◌≤◌, Bool, cond, List, [], ◌∷◌, ◌++◌, map, length, get_or, take, drop, set, sum_by, count_by, filter, ◌≢◌, nat_lt, slice_index_or, slice_set, refl}
 use Rattle.std.proofs.Common.{sym, ap, subst, ◌∙◌, ⊎_elim, arith, add-one}
-use Rattle.std.specs.List.{range_with_len, remove, AllByRecursion as All}
+use Rattle.std.specs.List.{range_with_len, remove, AllByRecursion}
 use Rattle.std.proofs.lemmas.List.{same_lists, append-nil, map-append, length-map, length-set, get_or-set_same, get_or-set_other, take-append-drop, drop_more, drop_all, set-get_or, get_or-take, length-take-le}
 use Rattle.std.proofs.lemmas.List.FromFn.{length-map-range_with_len, get_or-map-range_with_len, sum_by-map-range_with_len_more}
 use Rattle.std.proofs.lemmas.List.Elements.{filter-append}
@@ -35,7 +35,7 @@ count_none (e ∷ es) =
     let here : cond {A = ℕ} (below 0 e) 1 0 ≡ 0 = grind (arith, nat_tests) in
     omega (arith, sum_by-cons (λ (x : Entry). cond (below 0 x) 1 0) e es)
 
-count_all : (es : List Entry) → All (λ e. e.lane < 16) es → count_by (below 16) es ≡ length es
+count_all : (es : List Entry) → AllByRecursion (λ e. e.lane < 16) es → count_by (below 16) es ≡ length es
 count_all [] h = refl
 count_all (e ∷ es) (l, h) =
     let ih = count_all es h in
