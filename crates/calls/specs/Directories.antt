@@ -1,5 +1,5 @@
 -- What the directory does in the pool: a delivery from a zone's up lane, and a take-up. Refusals in their order: read each call
--- from its last definition (`..Call`) upward, to what comes of the directory's step (`..By`).
+-- from its last definition (`.._call`) upward, to what comes of the directory's step (`.._by`).
 use Rattle.std.specs.Prelude.{ℕ, cond, List, Some, None, Ok, Err, Option, nat_lt, slice_set}
 use Rattle.messages.specs.declared.kinds.Down.{Down as DownKind}
 use Rattle.messages.specs.declared.kinds.Message.{Message}

@@ -1,5 +1,5 @@
 -- What a zone does in the pool: a start, a let-go, a delivery from its down lane. Refusals in their order: read each call
--- from its last definition (`..Call`) upward, through its place or message, to what comes of the line's step (`..By`).
+-- from its last definition (`.._call`) upward, through its place or message, to what comes of the line's step (`.._by`).
 use Rattle.std.specs.Prelude.{ℕ, ◌+◌, ◌*◌, min, cond, Some, None, Ok, Err, Option, Result, nat_lt, slice_set}
 use Rattle.messages.specs.declared.requests.Request.{Request}
 use Rattle.messages.specs.declared.requests.Answer.{Answer}

@@ -19,7 +19,7 @@ use Rattle.line.specs.Outcomes.{refused, moved, answers, reports}
 use Rattle.line.specs.Requested.{requested}
 use Rattle.line.specs.Received.{received}
 use Rattle.directory.specs.declared.rows.Served.{Served}
-use Rattle.directory.specs.Directory as of-directory
+use Rattle.directory.specs.Directory as of_directory
 use Rattle.directory.specs.Directory.{Directory, directory, went}
 use Rattle.directory.specs.Serving.{awaited_for, only_to}
 use Rattle.directory.specs.TakeUp.{taken_up}
@@ -52,8 +52,8 @@ abbrev pub served_from : ℕ → Demand → ℕ → Served
 served_from zone k owner = record { zone = zone; demand = k; was_listed = false; owner = owner; found = None; owner_purged = false }
 
 -- what a step leaves
-abbrev pub left_by : of-directory.Outcome → Directory
-left_by (of-directory.refused n d) = d
+abbrev pub left_by : of_directory.Outcome → Directory
+left_by (of_directory.refused n d) = d
 left_by (went messages settled d) = d
 
 -- list [0], purge_all from 1 is being served

@@ -140,7 +140,7 @@ impl<'a, K: Key + Drop> Register<'a, K> {
         ensures rest { rest_of self.new ≡ drop self.new.used (row_of self.old) }
         ensures len { length (row_of self.new) ≡ length (row_of self.old) }
         ensures lender { self.new.row.ghost_name ≡ self.old.row.ghost_name }
-        ensures row { RowKept self.old self.new }
+        ensures kept { RowKept self.old self.new }
         ensures same_place_same_meaning { SamePlaceSameMeaning K.meaning (in_use self.new) }
         ensures places_stay { PlacesStay K.meaning (in_use self.old) (in_use self.new) }
         ensures stays_apart { Apart K.meaning (in_use self.old) → Apart K.meaning (in_use self.new) }

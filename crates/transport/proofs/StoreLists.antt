@@ -16,7 +16,7 @@ one_more xs n e within small old k d l = ⊎_elim
     (λ (ne : k ≡ n → ⊥). rw (get_or-set_other xs n k e d ne) (old k d (omega arith)))
     (cases_eq k n)
 
--- one less: the part from a to n was turned by one, and the last entry_of is left out
+-- one less: the part from a to n was turned by one, and the last entry is left out
 pub one_less : (xs ys : List Entry) (a n : ℕ) → a < n → n ≤ length xs
     → ys ≡ drop 1 (take (n - a) (drop a xs)) ++ take 1 (take (n - a) (drop a xs))
     → take (n - 1) (put_mid a (n - a) xs ys) ≡ remove (take n xs) a

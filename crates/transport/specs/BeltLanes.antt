@@ -123,7 +123,7 @@ module _ (es : List Entry) (i j : ℕ) (small : i < 16) (first : First es i j) w
       ∙ sym (ap (λ (xs : List Message). drop 1 xs) (lane_first d)) in
       changed_one es (remove es j) i small other ∙ ap (λ (xs : List Message). set (lanes_of es) i xs) here
 
--- a lane with no_lane in it
+-- a lane with nothing in it
 pub lists_same : (lists : Lists) (i : ℕ) → lane_at lists i ≡ [] → lists ≡ removed_at lists i
 lists_same lists i e = sym (ap (λ (xs : List Message). set lists i (drop 1 xs)) e ∙ ap (λ (xs : List Message). set lists i xs) (sym e) ∙ set-get_or lists i [])
 

@@ -83,7 +83,7 @@ impl<T: Transport + Drop> Loading<T> {
     ) -> Result<(), Fault>
         ensures outcome { (seen result, opens_as self.new, in_use register.new) ≡ load_all K.meaning (length (row_of register.old)) (opens_as self.old) (in_use register.old) stock.now }
         ensures lanes { T.waiting self.new.transport ≡ T.waiting self.old.transport }
-        ensures row { RowKept register.old register.new }
+        ensures kept { RowKept register.old register.new }
         ensures tied { (values : List ℕ → Option Assignment) → Tied K.meaning (opens_as self.old) (in_use register.old) values → OnOk result (Tied K.meaning (opens_as self.new) (in_use register.new) (stocked_from K.meaning values stock.now)) }
     {
         for item in stock {

@@ -31,7 +31,7 @@ returns-in_err-load g c =
     record {
       outcome = outcome;
       lanes = c.load.ensures.lanes ∙ inv.2;
-      row = row_kept_twice _ _ _ inv.1 c.load.ensures.kept;
+      kept = row_kept_twice _ _ _ inv.1 c.load.ensures.kept;
       tied = tied_after k size old.plan c.args.stock.now (opens_as old) _ (in_use c.args.register.now) _ _ outcome refl old.tables.many_slots (length-map old.tables.rows view_of ∙ old.tables.many_rows);
     }
 
@@ -64,6 +64,6 @@ returns g c =
     record {
       outcome = outcome;
       lanes = inv.2;
-      row = inv.1;
+      kept = inv.1;
       tied = tied_after k size old.plan c.args.stock.now (opens_as old) _ (in_use c.args.register.now) _ (Ok tt) outcome refl old.tables.many_slots (length-map old.tables.rows view_of ∙ old.tables.many_rows);
     }
