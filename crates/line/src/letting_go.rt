@@ -13,15 +13,10 @@ impl Line {
     pub fn let_go(&mut self) -> Result<Effect, Refusal>
         ensures { outcome_of result self.new.state ≡ let_go self.old.state }
     {
-        match self.state {
-            State::SharedUnowned(_) => {
-                self.state = State::Invalid;
-                Ok(Effect {
-                    sent: Some(Up::Report),
-                    answer: None,
-                })
-            }
-            _ => Err(Refusal::NotSharedUnowned),
-        }
+        let State::SharedUnowned(_) = self.state else {
+            return Err(Refusal::NotSharedUnowned);
+        };
+        self.state = State::Invalid;
+        Ok(Effect::sends(Up::Report))
     }
 }

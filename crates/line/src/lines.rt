@@ -6,7 +6,7 @@ use crate::states::State;
 use messages::assignments::Assignment;
 
 // A zone's line for one key. It arises fresh, by loading, or by steps.
-#[derive(Clone, Copy)]
+#[derive(Clone, Copy, PartialEq, Eq, Debug)]
 pub struct Line {
     pub(crate) state: State,
 }
@@ -52,9 +52,6 @@ impl Line {
     pub fn holds_exclusively(&self) -> bool
         ensures { result ≡ holds_exclusively self.now.state }
     {
-        match self.state {
-            State::Exclusive(_) => true,
-            _ => false,
-        }
+        matches!(self.state, State::Exclusive(_))
     }
 }

@@ -44,16 +44,10 @@ impl Line {
                 let (sent, rest) = give(copy, ask)?;
                 (sent, State::WaitingPurge(purge, rest))
             }
-            _ => return Ok(Effect {
-                sent: None,
-                answer: None,
-            }),
+            _ => return Ok(Effect::default()),
         };
         self.state = next;
-        Ok(Effect {
-            sent: Some(sent),
-            answer: None,
-        })
+        Ok(Effect::sends(sent))
     }
 
     fn end_wait(&mut self, reply: Reply) -> Result<Effect, Refusal>
@@ -70,10 +64,7 @@ impl Line {
             _ => return Err(Refusal::Misplaced),
         };
         self.state = next;
-        Ok(Effect {
-            sent: None,
-            answer: Some(answer),
-        })
+        Ok(Effect::answers(answer))
     }
 }
 
@@ -92,14 +83,12 @@ fn of_owner(copy: Assignment, ask: Ask) -> (Up, State)
 fn give(copy: Option<Assignment>, ask: Ask) -> Result<(Up, Option<Assignment>), Refusal>
     ensures { numbered result ≡ given copy ask }
 {
-    let Some(held) = copy else {
-        return Err(Refusal::Misplaced);
-    };
-    match ask {
-        Ask::SendData => Ok((Up::Data(held), copy)),
-        Ask::SendDataAndInvalidate => Ok((Up::Data(held), None)),
-        Ask::Invalidate => Ok((Up::Purged, None)),
-    }
+    let held = copy.ok_or(Refusal::Misplaced)?;
+    Ok(match ask {
+        Ask::SendData => (Up::Data(held), copy),
+        Ask::SendDataAndInvalidate => (Up::Data(held), None),
+        Ask::Invalidate => (Up::Purged, None),
+    })
 }
 
 // The answer "old" of a line that has `copy` left: the message's assignment, the copy, or none.
@@ -108,10 +97,7 @@ fn old_answer(copy: Option<Assignment>, reply: Reply) -> Result<Answer, Refusal>
 {
     match reply {
         Reply::DataFound(found) => Ok(Answer::Old(found)),
-        Reply::ExclusionMade => match copy {
-            Some(held) => Ok(Answer::Old(held)),
-            None => Err(Refusal::Misplaced),
-        },
+        Reply::ExclusionMade => copy.map(Answer::Old).ok_or(Refusal::Misplaced),
         Reply::NoDataFound => Ok(Answer::Nothing),
     }
 }

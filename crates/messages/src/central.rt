@@ -9,10 +9,7 @@ use crate::requests::{Answer, Request};
 fn old_answer(old: Option<Assignment>) -> Answer
     ensures { result ≡ old_answer old }
 {
-    match old {
-        Some(assignment) => Answer::Old(assignment),
-        None => Answer::Nothing,
-    }
+    old.map_or(Answer::Nothing, Answer::Old)
 }
 
 // What the central pool answers where the key had `old`.
@@ -23,12 +20,9 @@ pub fn answer(request: Request, old: Option<Assignment>) -> Answer
         Request::CarbonCopy
         | Request::GetIfAnyAndPut(_)
         | Request::GetAndPutIfAny(_)
-        | Request::GetIfAny => { old_answer(old) }
+        | Request::GetIfAny => old_answer(old),
         Request::Put(_) => Answer::Stored,
-        Request::Remove => match old {
-            Some(_) => Answer::Removed,
-            None => Answer::Nothing,
-        },
+        Request::Remove => old.map_or(Answer::Nothing, |_| Answer::Removed),
     }
 }
 
@@ -39,10 +33,7 @@ pub fn key_after(request: Request, old: Option<Assignment>) -> Option<Assignment
     match request {
         Request::CarbonCopy => old,
         Request::Put(new) | Request::GetIfAnyAndPut(new) => Some(new),
-        Request::GetAndPutIfAny(new) => match old {
-            Some(_) => Some(new),
-            None => None,
-        },
+        Request::GetAndPutIfAny(new) => old.and(Some(new)),
         Request::GetIfAny | Request::Remove => None,
     }
 }

@@ -69,10 +69,7 @@ impl Kind {
     pub fn goes_up(self) -> bool
         ensures { result ≡ goes_up self }
     {
-        match self {
-            Kind::Up(_) => true,
-            Kind::Down(_) => false,
-        }
+        matches!(self, Kind::Up(_))
     }
 
     // The assignment that it carries: only data and data_found do.
@@ -80,8 +77,8 @@ impl Kind {
         ensures { result ≡ carried self }
     {
         match self {
-            Kind::Up(Up::Data(assignment)) => Some(assignment),
-            Kind::Down(Down::Reply(Reply::DataFound(assignment))) => Some(assignment),
+            Kind::Up(Up::Data(assignment))
+            | Kind::Down(Down::Reply(Reply::DataFound(assignment))) => Some(assignment),
             _ => None,
         }
     }
@@ -105,10 +102,10 @@ impl Outgoing {
     pub fn one(zone: u8, down: Down) -> Outgoing
         ensures { result.to ≡ slice_set (replicate 8 None) zone (Some down) }
     {
-        let mut to = [None; 8];
+        let mut outgoing = Outgoing::nothing();
         if zone < 8 {
-            to[zone as usize] = Some(down);
+            outgoing.to[zone as usize] = Some(down);
         }
-        Outgoing { to }
+        outgoing
     }
 }

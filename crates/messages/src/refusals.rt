@@ -12,51 +12,33 @@ pub enum Layer {
 #[derive(Clone, Copy, PartialEq, Eq, Debug)]
 pub enum Refusal {
     // whoever sets up
-    ZonesOutOfRange,
-    PlacesOutOfRange,
-    FirstNumberZero,
-    AlreadyLoaded,
-    ChuteTooLarge,
+    ZonesOutOfRange = 1,
+    PlacesOutOfRange = 2,
+    FirstNumberZero = 3,
+    AlreadyLoaded = 4,
+    ChuteTooLarge = 5,
     // the zone controller
-    NoSuchZone,
-    ZonePaused,
-    NoPlace,
-    LineWaiting,
-    NumbersUsedUp,
+    NoSuchZone = 6,
+    ZonePaused = 7,
+    NoPlace = 8,
+    LineWaiting = 9,
+    NumbersUsedUp = 10,
     // a full transport
-    NoRoom,
+    NoRoom = 11,
     // whoever moves messages
-    NotSharedUnowned,
-    UnknownKey,
-    LaneEmpty,
-    PlaceServed,
-    NothingWaits,
+    NotSharedUnowned = 12,
+    UnknownKey = 13,
+    LaneEmpty = 14,
+    PlaceServed = 15,
+    NothingWaits = 16,
     // a user of a step alone: the step has no place in the protocol
-    Misplaced,
+    Misplaced = 17,
 }
 
 impl Refusal {
     pub fn number(self) -> u8
         ensures { result ≡ refusal_number self }
     {
-        match self {
-            Refusal::ZonesOutOfRange => 1,
-            Refusal::PlacesOutOfRange => 2,
-            Refusal::FirstNumberZero => 3,
-            Refusal::AlreadyLoaded => 4,
-            Refusal::ChuteTooLarge => 5,
-            Refusal::NoSuchZone => 6,
-            Refusal::ZonePaused => 7,
-            Refusal::NoPlace => 8,
-            Refusal::LineWaiting => 9,
-            Refusal::NumbersUsedUp => 10,
-            Refusal::NoRoom => 11,
-            Refusal::NotSharedUnowned => 12,
-            Refusal::UnknownKey => 13,
-            Refusal::LaneEmpty => 14,
-            Refusal::PlaceServed => 15,
-            Refusal::NothingWaits => 16,
-            Refusal::Misplaced => 17,
-        }
+        self as u8
     }
 }

@@ -26,7 +26,7 @@ pub enum Answer {
 }
 
 impl Answer {
-    // 0 none, 1 the old assignment, 2 stored, 3 removed.
+    // 0 none, 1 the old assignment, 2 stored, 3 removed. A match, since a variant that holds an assignment has no discriminant to cast.
     pub fn number(self) -> u8
         ensures { result ≡ answer_number self }
     {
