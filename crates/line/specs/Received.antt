@@ -13,6 +13,8 @@ use Rattle.messages.specs.declared.kinds.Down.{Down}
 use Rattle.messages.specs.declared.kinds.Down.TheVariants as down
 use Rattle.messages.specs.declared.kinds.Kind.{Kind}
 use Rattle.messages.specs.declared.kinds.Kind.TheVariants as kind
+use Rattle.messages.specs.declared.refusals.Refusal.{Refusal}
+use Rattle.messages.specs.Refusals.{refusal_number}
 use Rattle.line.specs.declared.states.Write.{Write}
 use Rattle.line.specs.declared.states.Write.TheVariants as write
 use Rattle.line.specs.declared.states.Purge.{Purge}
@@ -35,6 +37,11 @@ given None a = Err 17
 given (Some copy) SendData = Ok (Data copy, Some copy)
 given (Some copy) SendDataAndInvalidate = Ok (Data copy, None)
 given (Some copy) Invalidate = Ok (Purged, None)
+
+-- what is sent, or a refusal's number, together with what is left of the copy
+abbrev pub with_rest : Result Up Refusal → Option Assignment → Result (Up × Option Assignment) ℕ
+with_rest (Ok m) rest = Ok (m, rest)
+with_rest (Err e) rest = Err (refusal_number e)
 
 -- a message is sent up, and nothing is answered
 abbrev pub sends : Up × State → Outcome

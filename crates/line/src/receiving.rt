@@ -1,8 +1,8 @@
 // A message from the directory at a line.
-ghost use Rattle.std.specs.Prelude.{◌≡◌};
+ghost use Rattle.std.specs.Prelude.{◌≡◌, OnErr};
 ghost use Rattle.messages.specs.Refusals.{numbered};
-ghost use Rattle.line.specs.Outcomes.{outcome_of, moved_to};
-ghost use Rattle.line.specs.Received.{received, asked, replied, of_owner, given, old_answered, write_ends, write_if_any_ends, purge_ends, read_ends};
+ghost use Rattle.line.specs.Outcomes.{outcome_of};
+ghost use Rattle.line.specs.Received.{received, asked, replied, of_owner, given, with_rest, old_answered, write_ends, write_if_any_ends, purge_ends, read_ends};
 
 use crate::lines::Line;
 use crate::states::{Effect, Purge, State, Write};
@@ -26,27 +26,25 @@ impl Line {
     fn comply(&mut self, ask: Ask) -> Result<Effect, Refusal>
         ensures { outcome_of result self.new.state ≡ asked self.old.state ask }
     {
-        let (sent, next) = match self.state {
-            State::Exclusive(copy) | State::SharedOwned(copy) => of_owner(copy, ask),
-            State::SharedUnowned(_) => match ask {
-                Ask::Invalidate => (Up::Purged, State::Invalid),
-                _ => return Err(Refusal::Misplaced),
-            },
-            State::WaitingExclusion(write, copy) => {
-                let (sent, rest) = give(copy, ask)?;
-                (sent, State::WaitingExclusion(write, rest))
+        let sent = match &mut self.state {
+            State::Exclusive(copy) | State::SharedOwned(copy) => {
+                let (sent, next) = of_owner(*copy, ask);
+                self.state = next;
+                sent
             }
-            State::WaitingExclusionIfAny(new, copy) => {
-                let (sent, rest) = give(copy, ask)?;
-                (sent, State::WaitingExclusionIfAny(new, rest))
+            State::SharedUnowned(_) => {
+                if ask != Ask::Invalidate {
+                    return Err(Refusal::Misplaced);
+                }
+                self.state = State::Invalid;
+                Up::Purged
             }
-            State::WaitingPurge(purge, copy) => {
-                let (sent, rest) = give(copy, ask)?;
-                (sent, State::WaitingPurge(purge, rest))
-            }
+            // Three arms: of a copy lent out of one pattern with `|` it does not prove which request the line keeps beside it.
+            State::WaitingExclusion(_, copy) => give(copy, ask)?,
+            State::WaitingExclusionIfAny(_, copy) => give(copy, ask)?,
+            State::WaitingPurge(_, copy) => give(copy, ask)?,
             _ => return Ok(Effect::default()),
         };
-        self.state = next;
         Ok(Effect::sends(sent))
     }
 
@@ -79,15 +77,18 @@ fn of_owner(copy: Assignment, ask: Ask) -> (Up, State)
     }
 }
 
-// What a line that waits with a copy sends, and what is left of the copy.
-fn give(copy: Option<Assignment>, ask: Ask) -> Result<(Up, Option<Assignment>), Refusal>
-    ensures { numbered result ≡ given copy ask }
+// What a line that waits with a copy sends. The copy is kept only where data alone is asked for.
+fn give(copy: &mut Option<Assignment>, ask: Ask) -> Result<Up, Refusal>
+    ensures gives { with_rest result copy.new ≡ given copy.old ask }
+    ensures refused { OnErr result (copy.new ≡ copy.old) }
 {
     let held = copy.ok_or(Refusal::Misplaced)?;
+    if ask != Ask::SendData {
+        *copy = None;
+    }
     Ok(match ask {
-        Ask::SendData => (Up::Data(held), copy),
-        Ask::SendDataAndInvalidate => (Up::Data(held), None),
-        Ask::Invalidate => (Up::Purged, None),
+        Ask::SendData | Ask::SendDataAndInvalidate => Up::Data(held),
+        Ask::Invalidate => Up::Purged,
     })
 }
 
@@ -102,6 +103,7 @@ fn old_answer(copy: Option<Assignment>, reply: Reply) -> Result<Answer, Refusal>
     }
 }
 
+// WE and WED become E with the new assignment.
 fn write_ends(
     write: Write,
     copy: Option<Assignment>,
@@ -109,12 +111,14 @@ fn write_ends(
 ) -> Result<(Answer, State), Refusal>
     ensures { numbered result ≡ write_ends write copy reply }
 {
-    match write {
-        Write::Put(new) => Ok((Answer::Stored, State::Exclusive(new))),
-        Write::GetIfAnyAndPut(new) => Ok((old_answer(copy, reply)?, State::Exclusive(new))),
-    }
+    let (answer, new) = match write {
+        Write::Put(new) => (Answer::Stored, new),
+        Write::GetIfAnyAndPut(new) => (old_answer(copy, reply)?, new),
+    };
+    Ok((answer, State::Exclusive(new)))
 }
 
+// WEI and WEID become E with the new assignment, or I where no data was found.
 fn write_if_any_ends(
     new: Assignment,
     copy: Option<Assignment>,
@@ -122,13 +126,14 @@ fn write_if_any_ends(
 ) -> Result<(Answer, State), Refusal>
     ensures { numbered result ≡ write_if_any_ends new copy reply }
 {
-    let answer = old_answer(copy, reply)?;
-    match reply {
-        Reply::NoDataFound => Ok((answer, State::Invalid)),
-        _ => Ok((answer, State::Exclusive(new))),
-    }
+    let next = match reply {
+        Reply::DataFound(_) | Reply::ExclusionMade => State::Exclusive(new),
+        Reply::NoDataFound => State::Invalid,
+    };
+    Ok((old_answer(copy, reply)?, next))
 }
 
+// WP and WPD become I. A remove is answered removed, unless no data was found.
 fn purge_ends(
     purge: Purge,
     copy: Option<Assignment>,
@@ -136,15 +141,15 @@ fn purge_ends(
 ) -> Result<(Answer, State), Refusal>
     ensures { numbered result ≡ purge_ends purge copy reply }
 {
-    match purge {
-        Purge::GetIfAny => Ok((old_answer(copy, reply)?, State::Invalid)),
-        Purge::Remove => match reply {
-            Reply::NoDataFound => Ok((Answer::Nothing, State::Invalid)),
-            _ => Ok((Answer::Removed, State::Invalid)),
-        },
-    }
+    let answer = match purge {
+        Purge::GetIfAny => old_answer(copy, reply)?,
+        Purge::Remove if reply == Reply::NoDataFound => Answer::Nothing,
+        Purge::Remove => Answer::Removed,
+    };
+    Ok((answer, State::Invalid))
 }
 
+// WSD becomes SO with the data found, or I.
 fn read_ends(reply: Reply) -> Result<(Answer, State), Refusal>
     ensures { numbered result ≡ read_ends reply }
 {

@@ -148,3 +148,18 @@ impl fmt::Display for Refusal {
 }
 
 impl std::error::Error for Refusal {}
+
+#[cfg(test)]
+mod tests {
+    use super::*;
+    use std::test::Fail;
+
+    #[test]
+    fn words_and_assignments(rt: HostRuntime) -> Result<(), Fail> {
+        let assignment = Assignment::new(12, 5)?;
+        let kind = Kind::Down(Down::Reply(Reply::DataFound(assignment)));
+        let printed = format!(in rt.alloc(); "{kind}, {}", Refusal::NoRoom)?;
+        assert_eq!(rt; printed.as_str(), "data_found 12/5, no room");
+        Ok(())
+    }
+}
