@@ -1,5 +1,5 @@
 -- Every step leaves a sound directory, and a list that grows finds room.
-use Rattle.std.proofs.Common.{◌≡◌, ℕ, ◌<◌, ◌≤◌, true, false, cond, not, ◌&&◌, ltb, List, [], ◌∷◌, ◌++◌, length, Some, None, Option, refl, arith}
+use Rattle.std.proofs.Common.{◌≡◌, ℕ, ◌<◌, ◌≤◌, true, false, cond, not, ltb, List, [], ◌∷◌, ◌++◌, length, Some, None, Option, refl, arith}
 use lib.ListN.{length-map}
 use Rattle.std.proofs.lemmas.Bool.{lt-ltb}
 use Rattle.std.proofs.lemmas.Bool.Decides.{nat_tests}
@@ -13,7 +13,6 @@ use Rattle.directory.specs.declared.rows.Served.{Served}
 use Rattle.directory.specs.Lists.{listed, without}
 use Rattle.directory.specs.Directory.{Directory, directory, requesters, busy_with, busy}
 use Rattle.directory.specs.Serving.{reply_of, leaves, list_after}
-use Rattle.directory.specs.TakeUp.{wants_data, begun}
 use Rattle.directory.specs.Sound.{proper, reads_shared, reader_apart, sound}
 use Rattle.directory.proofs.Zones.{proper_length, proper_without, proper_push, unlisted_without}
 
@@ -63,25 +62,6 @@ joined_sound w d b h u =
     let p = parts d h in
     whole (directory d.list (d.waiting ++ w ∷ []) d.served)
     (record { holders = p.holders; askers = joined_askers w d.waiting d.served b p.askers u; reader = p.reader })
-
--- ── a request is taken up ──
-
-reader_not_listed : (k : Demand) (x : ℕ) (list : List ℕ) → listed list x && wants_data k ≡ false → cond (reads_shared k) (not (listed list x)) true ≡ true
-reader_not_listed GetSharedData x list h = grind (arith, nat_tests)
-reader_not_listed GetExclusiveData x list h = refl
-reader_not_listed GetExclusiveDataIfAny x list h = refl
-reader_not_listed GetRemovedData x list h = refl
-reader_not_listed Exclude x list h = refl
-reader_not_listed ExcludeIfAny x list h = refl
-reader_not_listed PurgeOthers x list h = refl
-reader_not_listed PurgeAndExclude x list h = refl
-reader_not_listed PurgeAll x list h = refl
-
-pub begun_sound : (w : Waiting) (list : List ℕ) (ws : List Waiting) → listed list w.zone && wants_data w.demand ≡ false → sound (directory list (w ∷ ws) None) ≡ true → sound (directory list ws (Some (begun w list))) ≡ true
-begun_sound w list ws m h =
-    let p = parts (directory list (w ∷ ws) None) h in
-    whole (directory list ws (Some (begun w list)))
-    (record { holders = p.holders; askers = p.askers; reader = reader_not_listed w.demand w.zone list m })
 
 -- ── a request ends ──
 

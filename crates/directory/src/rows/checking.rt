@@ -23,20 +23,13 @@ impl Row {
         ensures { result ≡ sound (view_of self) }
     {
         let waiting = self.waiting.zones();
-        if !is_proper(self.list.as_slice()) || !is_proper(waiting.as_slice()) {
-            return false;
-        }
-        match self.served {
-            None => true,
-            Some(served) => {
-                if served.zone >= 8 || waiting.contains(served.zone) {
-                    return false;
-                }
-                match served.demand {
-                    Demand::GetSharedData => !self.list.contains(served.zone),
-                    _ => true,
-                }
-            }
-        }
+        is_proper(self.list.as_slice())
+            && is_proper(waiting.as_slice())
+            && self.served.is_none_or(|served| {
+                let is_reader = matches!(served.demand, Demand::GetSharedData);
+                served.zone < 8
+                    && !waiting.contains(served.zone)
+                    && !(is_reader && self.list.contains(served.zone))
+            })
     }
 }
