@@ -1,4 +1,4 @@
-pub mod ShortLists
+pub mod Searches
+pub mod Arrays
 pub mod Zones
 pub mod Soundness
-pub mod Loops

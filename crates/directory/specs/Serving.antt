@@ -112,3 +112,8 @@ ended s list waiting = went (only_to s.zone (down.Reply (reply_of s))) (Some s.z
 -- the request goes on after the messages of this step, or ends where nobody is awaited
 abbrev pub serves_on : List (Option Down) → Served → List ℕ → List Waiting → Outcome
 serves_on messages s list waiting = cond (awaits_any s list) (went messages None (directory list waiting (Some s))) (ended s list waiting)
+
+-- the same by the request that is served, if any: with none, nothing more happens
+abbrev pub goes_on : List (Option Down) → Option Served → List ℕ → List Waiting → Outcome
+goes_on messages None list waiting = went messages None (directory list waiting None)
+goes_on messages (Some s) list waiting = serves_on messages s list waiting

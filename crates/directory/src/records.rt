@@ -4,8 +4,11 @@ ghost use Rattle.directory.specs.Sound.{sound};
 
 use crate::rows::Row;
 
+mod arriving;
+mod making;
 mod questions;
-mod steps;
+mod serving;
+mod taking_up;
 
 // A row that is sound. It arises fresh, by loading, by steps, or from a row after a check.
 #[derive(Clone, Copy)]

@@ -2,12 +2,9 @@ use crate::lists::{CacheList, ShortList};
 use messages::assignments::Assignment;
 use messages::kinds::{Demand, Outgoing};
 
-mod arriving;
-mod asking;
 mod checking;
-mod making;
 mod serving;
-mod taking_up;
+pub(crate) mod starting;
 
 // How a request is served. Sharing: the owner is asked for its data. Fetching: the owner is asked for its data and the
 // others to invalidate. Clearing: all but the requester are asked to invalidate.
@@ -21,16 +18,17 @@ pub enum Rule {
 // A zone's request that the directory has not taken up.
 #[derive(Clone, Copy)]
 pub struct Waiting {
-    zone: u8,
-    demand: Demand,
+    pub(crate) zone: u8,
+    pub(crate) demand: Demand,
 }
 
 // The request being served. Which zones are still awaited, and for what, is read off the cache list.
 #[derive(Clone, Copy)]
 pub struct Served {
-    zone: u8,
+    pub(crate) zone: u8,
     demand: Demand,
-    // at the take-up: whether the zone was listed, and who was the owner
+    // at the take-up: whether the zone was listed, and who was the owner.
+    // A number and no Option: of an empty list it is 0, and it is only ever compared with a zone that is listed.
     was_listed: bool,
     owner: u8,
     // what has come: data, and the owner's purged message
@@ -41,9 +39,9 @@ pub struct Served {
 // What the directory keeps for one place, as it lies in a table.
 #[derive(Clone, Copy)]
 pub struct Row {
-    list: CacheList,
-    waiting: ShortList<Waiting>,
-    served: Option<Served>,
+    pub(crate) list: CacheList,
+    pub(crate) waiting: ShortList<Waiting>,
+    pub(crate) served: Option<Served>,
 }
 
 // What a step does besides changing the row: the messages that it sends down, and the zone whose request it settles.

@@ -24,22 +24,25 @@ impl<T: Copy> ShortList<T> {
         }
     }
 
+    // The items, first to last.
+    pub fn as_slice(&self) -> &[T]
+        ensures { result.now ≡ items_of self.now }
+    {
+        &self.items[..self.used]
+    }
+
     pub fn len(self) -> usize
         ensures value { result ≡ length (items_of self) }
         ensures bound { result ≤ 8 }
         ensures items { items_of self ≡ take result self.items }
     {
-        if self.used < 8 { self.used } else { 8 }
+        self.used
     }
 
     pub fn first(self) -> Option<T>
         ensures { result ≡ first_of (items_of self) }
     {
-        if self.used == 0 {
-            None
-        } else {
-            Some(self.items[0])
-        }
+        self.as_slice().first().copied()
     }
 
     // One item more, before the others.
@@ -47,12 +50,13 @@ impl<T: Copy> ShortList<T> {
         requires { length (items_of self) < 8 }
         ensures { items_of result ≡ item ∷ items_of self }
     {
-        let n = self.len();
-        let mut items = [item; 8];
-        for i in 0..n {
-            items[i + 1] = self.items[i];
+        let mut items = self.items;
+        items.rotate_right(1);
+        items[0] = item;
+        ShortList {
+            items,
+            used: self.used + 1,
         }
-        ShortList { items, used: n + 1 }
     }
 
     // One item more, behind the others.
@@ -60,24 +64,23 @@ impl<T: Copy> ShortList<T> {
         requires { length (items_of self) < 8 }
         ensures { items_of result ≡ items_of self ++ item ∷ [] }
     {
-        let n = self.len();
         let mut items = self.items;
-        items[n] = item;
-        ShortList { items, used: n + 1 }
+        items[self.used] = item;
+        ShortList {
+            items,
+            used: self.used + 1,
+        }
     }
 
     // All but the first.
     pub(crate) fn rest(self) -> ShortList<T>
         ensures { items_of result ≡ rest_of (items_of self) }
     {
-        let n = self.len();
-        if n == 0 {
-            return self;
-        }
         let mut items = self.items;
-        for i in 0..n - 1 {
-            items[i] = self.items[i + 1];
+        items.rotate_left(1);
+        ShortList {
+            items,
+            used: self.used.saturating_sub(1),
         }
-        ShortList { items, used: n - 1 }
     }
 }

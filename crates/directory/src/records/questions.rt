@@ -10,13 +10,13 @@ impl Record {
     pub fn owner(self) -> Option<u8>
         ensures { result ≡ first_of (view_of self.row).list }
     {
-        self.row.owner()
+        self.row.list.first()
     }
 
     // Whether a request waits to be taken up.
     pub fn has_waiting(self) -> bool
         ensures { result ≡ is_some (first_of (view_of self.row).waiting) }
     {
-        self.row.has_waiting()
+        self.row.waiting.first().is_some()
     }
 }

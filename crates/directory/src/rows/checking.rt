@@ -1,38 +1,20 @@
 // Whether a row is sound.
 ghost use Rattle.std.specs.Prelude.{◌≡◌};
-ghost use Rattle.directory.specs.Directory.{view_of, requesters};
-ghost use Rattle.directory.specs.Lists.{items_of};
+ghost use Rattle.directory.specs.Directory.{view_of};
 ghost use Rattle.directory.specs.Sound.{sound, proper};
 
-use crate::lists::ShortList;
-use crate::rows::{Row, Waiting};
+use crate::lists::zones::is_listed;
+use crate::rows::Row;
 use messages::kinds::Demand;
 
 // Whether the zones are distinct and each below eight.
-fn is_proper(zones: ShortList<u8>) -> bool
-    ensures { result ≡ proper (items_of zones) }
+fn is_proper(zones: &[u8]) -> bool
+    ensures { result ≡ proper zones.now }
 {
-    let mut left = zones;
-    while let Some(zone) = left.first() {
-        left = left.rest();
-        if zone >= 8 || left.contains(zone) {
-            return false;
-        }
+    match zones.split_first() {
+        Some((zone, rest)) => *zone < 8 && !is_listed(rest, *zone) && is_proper(rest),
+        None => true,
     }
-    true
-}
-
-// The zones of the waiting requests.
-pub(crate) fn zones_of(queue: ShortList<Waiting>) -> ShortList<u8>
-    ensures { items_of result ≡ requesters (items_of queue) }
-{
-    let mut left = queue;
-    let mut zones = ShortList::empty(0);
-    while let Some(first) = left.first() {
-        zones = zones.push_back(first.zone);
-        left = left.rest();
-    }
-    zones
 }
 
 impl Row {
@@ -40,21 +22,14 @@ impl Row {
     pub(crate) fn is_sound(self) -> bool
         ensures { result ≡ sound (view_of self) }
     {
-        let waiting = zones_of(self.waiting);
-        if !is_proper(self.list) || !is_proper(waiting) {
-            return false;
-        }
-        match self.served {
-            None => true,
-            Some(served) => {
-                if served.zone >= 8 || waiting.contains(served.zone) {
-                    return false;
-                }
-                match served.demand {
-                    Demand::GetSharedData => !self.list.contains(served.zone),
-                    _ => true,
-                }
-            }
-        }
+        let waiting = self.waiting.zones();
+        is_proper(self.list.as_slice())
+            && is_proper(waiting.as_slice())
+            && self.served.is_none_or(|served| {
+                let is_reader = matches!(served.demand, Demand::GetSharedData);
+                served.zone < 8
+                    && !waiting.contains(served.zone)
+                    && !(is_reader && self.list.contains(served.zone))
+            })
     }
 }

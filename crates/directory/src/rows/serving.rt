@@ -1,13 +1,13 @@
 // How a request is served: whom the directory asks, and how the request ends.
-ghost use Rattle.std.specs.Prelude.{◌≡◌, ◌≤◌, length, Ok};
-ghost use Rattle.directory.specs.Directory.{view_of, outcome_of};
+ghost use Rattle.std.specs.Prelude.{◌≡◌, ◌≤◌, length};
+ghost use Rattle.directory.specs.Arrivals.{with_data, with_purged};
 ghost use Rattle.directory.specs.Lists.{items_of};
-ghost use Rattle.directory.specs.Serving.{rule_of, ask_by, ask_of_listed, awaited_for, awaits_any, data_reply, reply_of, leaves, list_after, serves_on};
+ghost use Rattle.directory.specs.Serving.{rule_of, ask_by, ask_of_listed, awaited_for, awaits_any, data_reply, reply_of, leaves};
 
 use crate::lists::{CacheList, ShortList};
-use crate::rows::{Effect, Row, Rule, Served};
+use crate::rows::{Rule, Served};
 use messages::assignments::Assignment;
-use messages::kinds::{Ask, Demand, Down, Outgoing, Reply};
+use messages::kinds::{Ask, Demand, Reply};
 
 fn rule_of(demand: Demand, on_list: bool) -> Rule
     ensures { result ≡ rule_of demand on_list }
@@ -31,52 +31,16 @@ fn ask_by(rule: Rule, is_owner: bool, data_came: bool) -> Option<Ask>
     ensures { result ≡ ask_by rule is_owner data_came }
 {
     match rule {
-        Rule::Sharing => {
-            if is_owner && !data_came {
-                Some(Ask::SendData)
-            } else {
-                None
-            }
-        }
-        Rule::Fetching => {
-            if is_owner {
-                Some(Ask::SendDataAndInvalidate)
-            } else {
-                Some(Ask::Invalidate)
-            }
-        }
-        Rule::Clearing => Some(Ask::Invalidate),
+        Rule::Sharing => (is_owner && !data_came).then_some(Ask::SendData),
+        Rule::Fetching if is_owner => Some(Ask::SendDataAndInvalidate),
+        Rule::Fetching | Rule::Clearing => Some(Ask::Invalidate),
     }
 }
 
 fn data_reply(found: Option<Assignment>) -> Reply
     ensures { result ≡ data_reply found }
 {
-    match found {
-        Some(assignment) => Reply::DataFound(assignment),
-        None => Reply::NoDataFound,
-    }
-}
-
-// The cache list that an ended request of `zone` leaves.
-fn list_left(demand: Demand, reply: Reply, zone: u8, list: CacheList) -> CacheList
-    requires { length (leaves demand reply zone (items_of list)) ≤ 8 }
-    ensures { items_of result ≡ leaves demand reply zone (items_of list) }
-{
-    match demand {
-        Demand::GetSharedData => match reply {
-            Reply::DataFound(_) => list.push_front(zone),
-            _ => ShortList::empty(0),
-        },
-        Demand::GetExclusiveDataIfAny | Demand::ExcludeIfAny => match reply {
-            Reply::NoDataFound => ShortList::empty(0),
-            _ => ShortList::alone(zone),
-        },
-        Demand::GetExclusiveData | Demand::Exclude | Demand::PurgeAndExclude => ShortList::alone(
-            zone,
-        ),
-        Demand::GetRemovedData | Demand::PurgeOthers | Demand::PurgeAll => ShortList::empty(0),
-    }
+    found.map_or(Reply::NoDataFound, Reply::DataFound)
 }
 
 impl Served {
@@ -109,17 +73,30 @@ impl Served {
     pub(crate) fn awaits_any(self, list: CacheList) -> bool
         ensures { result ≡ awaits_any self (items_of list) }
     {
-        let mut left = list;
-        while let Some(zone) = left.first() {
-            if self.ask_of_listed(zone).is_some() {
-                return true;
-            }
-            left = left.rest();
-        }
-        false
+        list.as_slice()
+            .iter()
+            .any(|zone| self.ask_of_listed(*zone).is_some())
     }
 
-    fn reply(self) -> Reply
+    pub(crate) fn with_data(self, found: Assignment) -> Served
+        ensures { result ≡ with_data self found }
+    {
+        Served {
+            found: Some(found),
+            ..self
+        }
+    }
+
+    pub(crate) fn with_purged(self, zone: u8) -> Served
+        ensures { result ≡ with_purged self zone }
+    {
+        Served {
+            owner_purged: self.owner_purged || zone == self.owner,
+            ..self
+        }
+    }
+
+    pub(crate) fn reply(self) -> Reply
         ensures { result ≡ reply_of self }
     {
         match self.demand {
@@ -144,28 +121,26 @@ impl Served {
             }
         }
     }
-}
 
-impl Row {
-    // Goes on with a served request after these messages, or ends it where nobody is awaited.
-    pub(crate) fn serve_on(&mut self, outgoing: Outgoing, served: Served, list: CacheList) -> Effect
-        requires { length (list_after served (items_of list)) ≤ 8 }
-        ensures { outcome_of (Ok result) (view_of self.new) ≡ serves_on outgoing.to served (items_of list) (items_of self.old.waiting) }
+    // The cache list that the request leaves when it ends with this reply.
+    pub(crate) fn list_left(self, reply: Reply, list: CacheList) -> CacheList
+        requires { length (leaves self.demand reply self.zone (items_of list)) ≤ 8 }
+        ensures { items_of result ≡ leaves self.demand reply self.zone (items_of list) }
     {
-        if served.awaits_any(list) {
-            self.list = list;
-            self.served = Some(served);
-            return Effect {
-                outgoing,
-                settled: None,
-            };
-        }
-        let reply = served.reply();
-        self.list = list_left(served.demand, reply, served.zone, list);
-        self.served = None;
-        Effect {
-            outgoing: Outgoing::one(served.zone, Down::Reply(reply)),
-            settled: Some(served.zone),
+        match (self.demand, reply) {
+            (Demand::GetSharedData, Reply::DataFound(_)) => list.push_front(self.zone),
+            (Demand::GetExclusiveDataIfAny | Demand::ExcludeIfAny, Reply::NoDataFound) => {
+                ShortList::empty(0)
+            }
+            (
+                Demand::GetExclusiveData
+                | Demand::GetExclusiveDataIfAny
+                | Demand::Exclude
+                | Demand::ExcludeIfAny
+                | Demand::PurgeAndExclude,
+                _,
+            ) => ShortList::alone(self.zone),
+            _ => ShortList::empty(0),
         }
     }
 }
