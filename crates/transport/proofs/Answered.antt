@@ -1,5 +1,6 @@
 -- What a put, a take, a look or a count comes to once the lane's number is known. For every transport.
-use Rattle.std.proofs.Common.{◌≡◌, ℕ, ◌<◌, true, false, List, length, drop, Some, Ok, Err, Option, sym, ap, ◌∙◌, arith}
+use Rattle.std.proofs.Common.{◌≡◌, ℕ, zero, suc, ◌<◌, true, false, List, [], ◌∷◌, length, drop, Some, Ok, Err, Option, sym, refl, ap, ◌∙◌, arith}
+use Rattle.std.specs.List.{slice_get}
 use Rattle.std.proofs.lemmas.Bool.{cond-true, cond-false}
 use Rattle.std.proofs.lemmas.Bool.Decides.{nat_tests}
 use Rattle.messages.specs.declared.kinds.Message.{Message}
@@ -41,3 +42,10 @@ behind_is lists lane i ahead ms e is = ap (λ (xs : List Message). oldest_of (dr
 
 pub taken_is : (lists : Lists) (lane : Lane) (i : ℕ) → Some i ≡ lane_number lane → removed_at lists i ≡ taken lists lane
 taken_is lists lane i e = ap (taken_at lists) e
+
+-- the first of what is left after n messages is the one at place n
+pub nth_is : (ms : List Message) (n : ℕ) → slice_get ms n ≡ oldest_of (drop n ms)
+nth_is [] zero = refl
+nth_is [] (suc n) = refl
+nth_is (m ∷ ms) zero = refl
+nth_is (m ∷ ms) (suc n) = nth_is ms n

@@ -1,6 +1,6 @@
 pub mod Answered
 pub mod RingLists
-pub mod StoreLists
+pub mod BeltLists
 pub mod RoomLaws
 pub mod Sendings
 pub mod Limits

@@ -1,6 +1,10 @@
 -- Sending to several zones: one turn of it under the laws of any room rule, and what each lane gets in all.
 use Rattle.std.proofs.Common.{◌≡◌, ℕ, zero, suc, ◌+◌, ◌-◌, ◌<◌, ◌≤◌, true, false, ltb, ◌≢◌, List, [], ◌++◌, map, length, get_or, set, replicate, is_some, Some, None, Ok, Option, Result, sym, refl, ap, ◌∙◌, subst, ⊎_elim, add-one, arith}
 use Rattle.std.proofs.lemmas.List.{get_or-append-add, get_or_append_left, get_or-map, get_or_past, get_or-set_other, get_or-set_same, length-replicate, length-append, length-map, length-set, get_or-replicate, same_lists, get_or_default, append-nil}
+use Rattle.std.specs.List.{range_with_len, zip}
+use Rattle.std.proofs.lemmas.List.FromFn.{length-range_with_len, get_or-range_with_len}
+use Rattle.std.proofs.lemmas.Slice.Zip.{get_or-zip, length-zip}
+use Rattle.std.proofs.lemmas.Bool.Decides.{nat_tests}
 use Rattle.std.proofs.lemmas.Bool.{cases_lt, cases_eq, false≢true, cond-true, lt-ltb}
 use Rattle.messages.specs.declared.kinds.Down.{Down}
 use Rattle.messages.specs.declared.kinds.Message.{Message}
@@ -15,6 +19,38 @@ use Rattle.transport.proofs.RoomLaws.{put_admitted}
 -- some admitted set holds each lane that is still to get its message
 abbrev pub Ready : Rule → Lists → List (Option Down) → ℕ → Type 0
 Ready room lists to z = (s : Marks) × (room lists s ≡ true) × ((k : ℕ) → z ≤ k → k < 8 → is_some (get_or to k None) ≡ true → Holds s (8 + k))
+
+-- the lists once the zones below z have their messages, with room for the rest
+abbrev pub SentSoFar : Rule → Lists → Lists → ℕ → List (Option Down) → ℕ → Type 0
+SentSoFar room start now place to z = (now ≡ sent_below start place to z) × Ready room now to z
+
+-- the zones with what each is sent
+abbrev pub by_zone : List (Option Down) → List (ℕ × Option Down)
+by_zone to = zip (range_with_len 0 8) to
+
+-- a turn of the loop at zone z, which is sent `next`
+pub record ZoneTurn (room : Rule) (start now : Lists) (place : ℕ) (to : List (Option Down)) (n z : ℕ) (next : Option Down) : Type 0 where
+  pub small : z < 8
+  pub same : z ≡ n
+  pub is : get_or to z None ≡ next
+  pub so_far : SentSoFar room start now place to z
+
+-- after n turns the loop is at zone n
+pub zone_turn : (room : Rule) (start now : Lists) (place : ℕ) (to : List (Option Down)) (n z : ℕ) (next : Option Down) → length to ≡ 8
+    → (n < length (by_zone to)) × ((z, next) ≡ get_or (by_zone to) n (z, next)) → SentSoFar room start now place to n → ZoneTurn room start now place to n z next
+zone_turn room start now place to n z next eight (within, at) so_far =
+    let counted = length-range_with_len 0 8 in
+    let long = length-zip (range_with_len 0 8) to in
+    let small : n < 8 = grind (arith, nat_tests) in
+    let pair : (z, next) ≡ (get_or (range_with_len 0 8) n z, get_or to n next) = at ∙ get_or-zip (range_with_len 0 8) to n (z, next) (omega arith) (omega arith) in
+    let number : get_or (range_with_len 0 8) n z ≡ n = omega (arith, get_or-range_with_len 0 8 n z small) in
+    let same : z ≡ n = ap (λ (p : ℕ × Option Down). p.0) pair ∙ number in
+    record {
+      small = omega arith;
+      same = same;
+      is = ap (λ (k : ℕ). get_or to k None) same ∙ get_or_default to n None next (omega arith) ∙ sym (ap (λ (p : ℕ × Option Down). p.1) pair);
+      so_far = subst (SentSoFar room start now place to) (sym same) so_far;
+    }
 
 some_within : (to : List (Option Down)) (k : ℕ) → is_some (get_or to k None) ≡ true → k < length to
 some_within to k h = ⊎_elim (λ (l : k < length to). l) (λ (l : length to ≤ k). absurd (false≢true (ap is_some (sym (get_or_past to k None l)) ∙ h))) (cases_lt k (length to))

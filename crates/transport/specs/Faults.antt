@@ -1,6 +1,7 @@
 -- What a transport's fault tells: its number, its layer, and the zone or the place that it names.
 use Rattle.std.specs.Prelude.{ℕ, Some, None, Ok, Err, Result}
 use Rattle.messages.specs.declared.refusals.Layer.TheVariants.{Transport}
+use Rattle.messages.specs.declared.refusals.Refusal.{Refusal}
 use Rattle.messages.specs.Refusals.{Facts, refusal_number}
 use Rattle.transport.specs.declared.faults.Subject.{Subject}
 use Rattle.transport.specs.declared.faults.Subject.TheVariants.{Zone, Place}
@@ -10,6 +11,10 @@ use Rattle.transport.specs.declared.faults.TransportFault.{TransportFault}
 abbrev pub refused : ℕ → Subject → Facts
 refused number (Zone z) = record { number = number; layer = Transport; zone = Some z; place = None }
 refused number (Place p) = record { number = number; layer = Transport; zone = None; place = Some p }
+
+-- why a fault refused
+abbrev pub refusal_of : TransportFault → Refusal
+refusal_of f = f.refusal
 
 -- what a fault stands for
 abbrev pub transport_facts : TransportFault → Facts

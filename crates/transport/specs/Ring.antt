@@ -6,7 +6,7 @@ use Rattle.messages.specs.declared.kinds.Kind.TheVariants as kind
 use Rattle.messages.specs.declared.kinds.Up.TheVariants as up
 use Rattle.messages.specs.declared.kinds.Demand.TheVariants as demand
 use Rattle.transport.specs.declared.ring.Ring.{Ring}
-use Rattle.transport.specs.declared.bank.RingBank.{RingBank}
+use Rattle.transport.specs.declared.rings.RingBank.{RingBank}
 use Rattle.transport.specs.Lanes.{Lists}
 
 -- what a slot holds before its first message

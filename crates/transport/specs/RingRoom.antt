@@ -6,7 +6,7 @@ use Rattle.std.proofs.lemmas.Bool.{cases_eq, cases_lt, cases_Bool, false≢true,
 use Rattle.std.proofs.lemmas.Bool.Decides.{Decides-below_and, same_from_decides}
 use Rattle.messages.specs.declared.kinds.Message.{Message}
 use Rattle.transport.specs.declared.ring.Ring.{Ring}
-use Rattle.transport.specs.declared.bank.RingBank.{RingBank}
+use Rattle.transport.specs.declared.rings.RingBank.{RingBank}
 use Rattle.transport.specs.Lanes.{Lists, Marks, no_lane, only_lane, lane_at, joined_at, removed_at, all_empty}
 use Rattle.transport.specs.Ring.{ring_items, bank_lists}
 use Rattle.transport.specs.Room.{Holds, PartAdmitted, RestAdmitted, TakeAdmits, EmptyAdmits, every_below, lane_free, ring_depth, rings_room}

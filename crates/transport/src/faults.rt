@@ -2,7 +2,7 @@
 ghost use Rattle.std.specs.Prelude.{◌≡◌};
 ghost use Rattle.messages.specs.declared.refusals.Layer.{Layer};
 ghost use Rattle.transport.specs.declared.faults.Subject.TheVariants.{Zone};
-ghost use Rattle.transport.specs.Faults.{refused, transport_facts};
+ghost use Rattle.transport.specs.Faults.{refused, refusal_of, transport_facts};
 
 use messages::refusals::{Layer, Refusal};
 
@@ -37,6 +37,12 @@ impl TransportFault {
             refusal: Refusal::NoRoom,
             subject,
         }
+    }
+
+    pub fn refusal(self) -> Refusal
+        ensures { result ≡ refusal_of self }
+    {
+        self.refusal
     }
 
     pub fn number(self) -> u8

@@ -26,7 +26,10 @@ pub trait Transport {
 
     // What a take would answer.
     fn look(&self, lane: Lane) -> Option<Message>
-        ensures { result ≡ oldest (waiting self.now) lane };
+        ensures { result ≡ oldest (waiting self.now) lane }
+    {
+        self.look_at(lane, 0)
+    }
 
     // How many messages wait in the lane.
     fn count(&self, lane: Lane) -> usize
@@ -55,5 +58,5 @@ pub trait Transport {
     ghost fewer: { TakeAdmits room };
 
     // With all lanes empty every set is admitted.
-    ghost empty: { EmptyAdmits room };
+    ghost empty: { (t : Self) → EmptyAdmits room };
 }

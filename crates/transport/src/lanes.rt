@@ -1,5 +1,5 @@
 // Lanes and sets of lanes.
-ghost use Rattle.std.specs.Prelude.{◌≡◌, ◌≤◌};
+ghost use Rattle.std.specs.Prelude.{◌≡◌, ◌<◌, ◌≤◌, IfSome};
 ghost use Rattle.transport.specs.Lanes.{lane_number, zone_of, no_lane, also_marked};
 ghost use Rattle.transport.specs.Room.{set_size};
 ghost use Rattle.transport.specs.Sending.{down_marks};
@@ -7,7 +7,7 @@ ghost use Rattle.transport.specs.Sending.{down_marks};
 use messages::kinds::Outgoing;
 
 // A zone's lane to the directory, or from it.
-#[derive(Clone, Copy)]
+#[derive(Clone, Copy, PartialEq, Eq, Debug)]
 pub enum Lane {
     Up(u8),
     Down(u8),
@@ -16,17 +16,12 @@ pub enum Lane {
 impl Lane {
     // The lane's number: 0 to 7 the up lanes by zone, 8 to 15 the down lanes. None where the zone is above 7.
     pub(crate) fn number(self) -> Option<usize>
-        ensures { result ≡ lane_number self }
+        ensures number { result ≡ lane_number self }
+        ensures within { IfSome result (λ i. i < 16) }
     {
         match self {
-            Lane::Up(zone) => { if zone < 8 { Some(zone as usize) } else { None } }
-            Lane::Down(zone) => {
-                if zone < 8 {
-                    Some(8 + zone as usize)
-                } else {
-                    None
-                }
-            }
+            Lane::Up(zone) => (zone < 8).then_some(zone as usize),
+            Lane::Down(zone) => (zone < 8).then_some(8 + zone as usize),
         }
     }
 
@@ -34,14 +29,13 @@ impl Lane {
         ensures { result ≡ zone_of self }
     {
         match self {
-            Lane::Up(zone) => zone,
-            Lane::Down(zone) => zone,
+            Lane::Up(zone) | Lane::Down(zone) => zone,
         }
     }
 }
 
 // A set of lanes: a mark for each lane's number.
-#[derive(Clone, Copy)]
+#[derive(Clone, Copy, PartialEq, Eq, Debug)]
 pub struct LaneSet {
     pub marks: [bool; 16],
 }
@@ -61,14 +55,13 @@ impl LaneSet {
     }
 
     // The set with one lane more; as it was where the zone is above 7.
-    pub fn with(self, lane: Lane) -> LaneSet
+    pub fn with(mut self, lane: Lane) -> LaneSet
         ensures { result.marks ≡ also_marked self.marks lane }
     {
-        let mut marks = self.marks;
         if let Some(i) = lane.number() {
-            marks[i] = true;
+            self.marks[i] = true;
         }
-        LaneSet { marks }
+        self
     }
 
     // The down lanes of the zones that get a message.
@@ -84,13 +77,7 @@ impl LaneSet {
     pub(crate) fn size(self) -> usize
         ensures { (result ≡ set_size self.marks) × (result ≤ 16) }
     {
-        let mut n = 0;
-        for i in 0..16 {
-            if self.marks[i] {
-                n += 1;
-            }
-        }
-        n
+        self.marks.iter().filter(|marked| **marked).count()
     }
 }
 
@@ -99,8 +86,6 @@ fn down_marks(outgoing: Outgoing) -> [bool; 16]
     ensures { result ≡ down_marks outgoing.to }
 {
     let mut marks = [false; 16];
-    for zone in 0..8 {
-        marks[8 + zone] = outgoing.to[zone].is_some();
-    }
+    marks[8..].copy_from_slice(&outgoing.to.map(|next| next.is_some()));
     marks
 }

@@ -7,13 +7,11 @@ pub mod lanes;
 pub mod sending;
 
 // The rings.
-mod bank;
 mod ring;
 pub mod rings;
 
 // The belt.
 pub mod belt;
 mod entry;
-mod store;
 #[cfg(test)]
 mod tests;

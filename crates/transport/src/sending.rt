@@ -33,9 +33,7 @@ pub fn send_all<T: Transport>(
     ensures answer { told result ≡ send_answer T.room (T.waiting transport.old) outgoing.to subject }
     ensures lists { T.waiting transport.new ≡ send_lists T.room (T.waiting transport.old) place outgoing.to }
 {
-    if !transport.has_room(LaneSet::down_to(outgoing)) {
-        return Err(TransportFault::no_room(subject));
-    }
+    admit(transport, LaneSet::down_to(outgoing), subject)?;
     send_each(transport, place, outgoing)
 }
 
@@ -49,8 +47,7 @@ fn send_each<T: Transport>(
     ensures answer { result ≡ Ok tt }
     ensures lists { T.waiting transport.new ≡ all_sent (T.waiting transport.old) place outgoing.to }
 {
-    for zone in 0..8u8 {
-        let next = outgoing.to[zone as usize];
+    for (zone, &next) in (0..8).zip(&outgoing.to) {
         if let Some(down) = next {
             transport.put(
                 Lane::Down(zone),

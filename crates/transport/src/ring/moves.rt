@@ -48,18 +48,8 @@ impl<const DEPTH: usize> Ring<DEPTH> {
         requires { length (ring_items self.old) < DEPTH }
         ensures { ring_items self.new ≡ ring_items self.old ++ message ∷ [] }
     {
-        let at = self.slot(self.len);
-        self.slots[at] = message;
+        self.slots[self.slot(self.len)] = message;
         self.len += 1;
-    }
-
-    pub(crate) fn oldest(&self) -> Option<Message>
-        ensures { result ≡ oldest_of (ring_items self.now) }
-    {
-        if self.len == 0 {
-            return None;
-        }
-        Some(self.slots[self.head])
     }
 
     pub(crate) fn count(&self) -> usize
@@ -72,20 +62,18 @@ impl<const DEPTH: usize> Ring<DEPTH> {
     pub(crate) fn get(&self, ahead: usize) -> Option<Message>
         ensures { result ≡ oldest_of (drop ahead (ring_items self.now)) }
     {
-        if ahead >= self.len {
-            return None;
+        if ahead < self.len {
+            Some(self.slots[self.slot(ahead)])
+        } else {
+            None
         }
-        Some(self.slots[self.slot(ahead)])
     }
 
     pub(crate) fn pop(&mut self) -> Option<Message>
         ensures answer { result ≡ oldest_of (ring_items self.old) }
         ensures rest { ring_items self.new ≡ drop 1 (ring_items self.old) }
     {
-        if self.len == 0 {
-            return None;
-        }
-        let message = self.slots[self.head];
+        let message = self.get(0)?;
         self.head = self.slot(1);
         self.len -= 1;
         Some(message)

@@ -1,22 +1,16 @@
-use Rattle.std.proofs.Common.{◌≡◌, ℕ, ◌+◌, false, ◌≢◌, length, get_or, set, is_some, None, ◌∙◌, arith, rules, below_more}
-use Rattle.std.proofs.lemmas.List.{length-set, get_or-set_same, get_or-set_other}
-use Rattle.transport.proofs.Sendings.{marks_from}
+use Rattle.std.proofs.Common.{◌≡◌, Bool, false, List, ◌++◌, map, length, get_or, replicate, is_some, None, sym, ap, ◌∙◌, arith, rules}
+use Rattle.std.proofs.lemmas.List.{same_lists, append-nil, get_or-map, length-map}
+use Rattle.transport.specs.Sending.{down_marks}
 use Rattle.transport.proofs.lanes.down_marks.Goals as goal
 
-pub loop-zone-preserved : goal.loop-zone-preserved
-loop-zone-preserved c =
-    let marks = c.loop-zone.marks in
-    let z = c.loop-zone.zone in
-    let b = c.is_some.result in
-    let inv = c.loop-zone.invariant in (
-      length-set marks (8 + z) b ∙ inv.0,
-      λ k l. (let ne : k ≢ 8 + z = omega arith in get_or-set_other marks (8 + z) k b false ne ∙ inv.1 k l),
-      below_more (λ (k : ℕ). get_or (set marks (8 + z) b) (8 + k) false ≡ is_some (get_or c.args.outgoing.to k None)) z
-          (λ k l. (let ne : 8 + k ≢ 8 + z = omega arith in get_or-set_other marks (8 + z) (8 + k) b false ne ∙ inv.2 k l))
-          (get_or-set_same marks (8 + z) b false (omega (arith, inv.0)) ∙ c.is_some.ensures),
-    )
-
 pub returns : goal.returns
+unfolding down_marks
 returns c =
-    let long : length c.args.outgoing.to ≡ 8 = search rules in
-    marks_from c.args.outgoing.to c.loop-zone.marks long c.loop-zone.invariant.0 c.loop-zone.invariant.1 (λ k l. c.loop-zone.invariant.2 k (omega arith))
+    let to = c.args.outgoing.to in
+    let long : length to ≡ 8 = search rules in
+    let mapped : c.map.result ≡ map is_some to = same_lists c.map.result (map is_some to) (c.map.ensures.items.long ∙ sym (length-map to is_some ∙ long))
+    (λ k d l.
+    let at = c.map.ensures.items.at k None d (omega (arith, c.map.ensures.items.long)) in
+    let e : get_or c.map.result k d ≡ is_some (get_or to k None) = search rules in
+    e ∙ sym (get_or-map is_some to k None d (omega (arith, c.map.ensures.items.long)))) in
+    ap (λ (marks : List Bool). replicate 8 false ++ marks) (append-nil c.copy_from_slice.new.self ∙ c.copy_from_slice.ensures.after ∙ mapped)

@@ -1,44 +1,59 @@
-use Rattle.std.proofs.Common.{◌≡◌, ◌+◌, sym, refl, ap, ◌∙◌, arith}
+use Rattle.std.proofs.Common.{◌≡◌, ℕ, ◌+◌, length, sym, refl, ap, ◌∙◌, subst, rules}
+use Rattle.std.proofs.lemmas.List.{length_push}
+use Rattle.std.proofs.lemmas.Iterator.{YieldsList-from_range, YieldsList-from_slice, YieldsList-from_zip}
+use Rattle.std.proofs.lemmas.Iterator.Consumers.{YieldsList-turn}
 use Rattle.transport.specs.Sending.{down_message}
 use Rattle.transport.proofs.RoomLaws.{not_refused}
-use Rattle.transport.proofs.Sendings.{ready_start, ready_skip, ready_at, sent_none, sent_one, sent_skip, sent_end, turn}
+use Rattle.transport.proofs.Sendings.{SentSoFar, zone_turn, ready_start, ready_skip, sent_none, sent_one, sent_skip, turn}
 use Rattle.transport.proofs.sending.send_each.Goals as goal
-use Rattle.transport.proofs.sending.send_each.Goals.{in-Some+in_ok-put, in_default}
+
+pub loop-zone-init : goal.loop-zone-init
+loop-zone-init g c = (sent_none _ _ _, ready_start g.T.Transport.room _ _ c.requires)
+
+pub loop-zone-preserved-in-Continue-1 : goal.loop-zone-preserved-in-Continue-1
+loop-zone-preserved-in-Continue-1 g c =
+    let t = g.T.Transport in
+    let to = c.args.outgoing.to in
+    let place = c.args.place in
+    let z = c.in-Some.zone in
+    let d = c.in-Some-next.down in
+    let start = t.waiting c.args.transport.now in
+    let before = t.waiting c.loop-zone.transport in
+    let after = t.waiting c.put.new.self in
+    let long : length to ≡ 8 = search rules in
+    let found = YieldsList-turn (YieldsList-from_zip (YieldsList-from_range 0 8 8 (cc) refl) (YieldsList-from_slice to (cc))) c.loop-zone.yielded c.loop-zone.zone-iterator c.loop-zone.yielded_by c.next.result c.next.new.self (z, c.in-Some.field-0-1) c.in-Some.is c.next.ensures.steps in
+    let here = zone_turn t.room start before place to (length c.loop-zone.yielded) z c.in-Some.field-0-1.now long found c.loop-zone.invariant in
+    let done = turn t.room g.met.T.Transport.part g.met.T.Transport.rest before after to z d (down_message place d) c.put.result
+    here.small (here.is ∙ c.in-Some-next.is) here.so_far.1 c.put.ensures.answer c.put.ensures.lists in
+    subst (SentSoFar t.room start after place to) (ap (λ (n : ℕ). n + 1) here.same ∙ sym (length_push c.loop-zone.yielded (z, c.in-Some.field-0-1)))
+    (sent_one start place to z before after d (here.is ∙ c.in-Some-next.is) here.so_far.0 done.lists, done.ready)
 
 pub returns-in_err-put : goal.returns-in_err-put
 returns-in_err-put g c =
     let t = g.T.Transport in
-    let m = down_message c.args.place c.in-Some.down in
-    let done = turn t.room g.met.T.Transport.part g.met.T.Transport.rest (t.waiting c.loop-zone.transport) (t.waiting c.put.new.self) c.args.outgoing.to c.loop-zone.zone c.in-Some.down m c.put.result
-    c.loop-zone-test.true c.in-Some.is c.loop-zone.invariant.1 c.put.ensures.answer c.put.ensures.lists in
+    let to = c.args.outgoing.to in
+    let place = c.args.place in
+    let z = c.in-Some.zone in
+    let d = c.in-Some-next.down in
+    let start = t.waiting c.args.transport.now in
+    let before = t.waiting c.loop-zone.transport in
+    let long : length to ≡ 8 = search rules in
+    let found = YieldsList-turn (YieldsList-from_zip (YieldsList-from_range 0 8 8 (cc) refl) (YieldsList-from_slice to (cc))) c.loop-zone.yielded c.loop-zone.zone-iterator c.loop-zone.yielded_by c.next.result c.next.new.self (z, c.in-Some.field-0-1) c.in-Some.is c.next.ensures.steps in
+    let here = zone_turn t.room start before place to (length c.loop-zone.yielded) z c.in-Some.field-0-1.now long found c.loop-zone.invariant in
+    let done = turn t.room g.met.T.Transport.part g.met.T.Transport.rest before (t.waiting c.put.new.self) to z d (down_message place d) c.put.result
+    here.small (here.is ∙ c.in-Some-next.is) here.so_far.1 c.put.ensures.answer c.put.ensures.lists in
     absurd (not_refused _ _ done.answer c.in_err-put.was)
-
-pub loop-zone-init : goal.loop-zone-init
-loop-zone-init g c = (sent_none _ _ _, ready_start g.T.Transport.room _ _ c.requires)
 
 pub loop-zone-preserved : goal.loop-zone-preserved
 loop-zone-preserved g c =
     let t = g.T.Transport in
     let to = c.args.outgoing.to in
     let place = c.args.place in
-    let z = c.loop-zone.zone in
+    let z = c.in-Some.zone in
+    let start = t.waiting c.args.transport.now in
     let before = t.waiting c.loop-zone.transport in
-    elim c.match-next.branch [
-      | in-Some+in_ok-put w ↦
-          let d = w.in-Some.down in
-          let done = turn t.room g.met.T.Transport.part g.met.T.Transport.rest before (t.waiting w.put.new.self) to z d (down_message place d) w.put.result
-          c.loop-zone-test.true w.in-Some.is c.loop-zone.invariant.1 w.put.ensures.answer w.put.ensures.lists in
-          let same : t.waiting c.match-next.transport ≡ t.waiting w.put.new.self = ap t.waiting {y = w.put.new.self} w.transport-is in
-          (sent_one _ place to z before _ d w.in-Some.is c.loop-zone.invariant.0 (same ∙ done.lists), ready_at t.room to (z + 1) (sym same) done.ready)
-      | in_default w ↦
-          let same : t.waiting c.match-next.transport ≡ before = ap t.waiting {y = c.loop-zone.transport} w.transport-is in
-          (sent_skip _ place to z before _ w.in_default.is c.loop-zone.invariant.0 same, ready_at t.room to (z + 1) (sym same) (ready_skip t.room before to z c.loop-zone.invariant.1))
-    ]
-
-pub returns : goal.returns
-returns g c =
-    let t = g.T.Transport in
-    record {
-      answer = refl;
-      lists = sent_end (t.waiting c.args.transport.now) c.args.place c.args.outgoing.to c.loop-zone.zone (t.waiting c.loop-zone.transport) (omega arith) c.loop-zone.invariant.0;
-    }
+    let long : length to ≡ 8 = search rules in
+    let found = YieldsList-turn (YieldsList-from_zip (YieldsList-from_range 0 8 8 (cc) refl) (YieldsList-from_slice to (cc))) c.loop-zone.yielded c.loop-zone.zone-iterator c.loop-zone.yielded_by c.next.result c.next.new.self (z, c.in-Some.field-0-1) c.in-Some.is c.next.ensures.steps in
+    let here = zone_turn t.room start before place to (length c.loop-zone.yielded) z c.in-Some.field-0-1.now long found c.loop-zone.invariant in
+    subst (SentSoFar t.room start before place to) (ap (λ (n : ℕ). n + 1) here.same ∙ sym (length_push c.loop-zone.yielded (z, c.in-Some.field-0-1)))
+    (sent_skip start place to z before before (here.is ∙ c.in_default.is) here.so_far.0 refl, ready_skip t.room before to z here.so_far.1)

@@ -14,5 +14,5 @@ returns g c =
     let r = c.args.self.now in
     let n = length_ring g.row.DEPTH r.slots r.head r.len in
     let long : length r.slots ≡ g.row.DEPTH = search rules in
-    ap (λ (i : ℕ). ring_list g.row.DEPTH (set r.slots i c.args.message) r.head (r.len + 1)) c.slot-at.ensures.value
+    ap (λ (i : ℕ). ring_list g.row.DEPTH (set r.slots i c.args.message) r.head (r.len + 1)) c.slot.ensures.value
     ∙ ring_pushed g.row.DEPTH r.slots r.head r.len c.args.message long (omega arith) (omega arith)

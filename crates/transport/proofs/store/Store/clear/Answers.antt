@@ -1,5 +1,0 @@
-use Rattle.transport.specs.BeltLanes.{lanes_none}
-use Rattle.transport.proofs.store.Store.clear.Goals as goal
-
-pub returns : goal.returns
-returns c = lanes_none
