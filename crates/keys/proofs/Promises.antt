@@ -1,9 +1,9 @@
 -- The promises on places, proved for every list of keys and every meaning.
-use Rattle.std.proofs.Common.{◌≡◌, ℕ, zero, suc, ◌+◌, ◌<◌, Bool, true, false, cond, ltb, List, [], ◌∷◌, ◌++◌, map, length, Some, None, Option, sym, refl, ap, ◌∙◌, ⊎_elim, arith}
+use Rattle.std.proofs.Common.{◌≡◌, ℕ, zero, suc, ◌+◌, ◌<◌, Bool, true, false, cond, ltb, List, [], ◌∷◌, ◌++◌, map, length, take, set, Some, None, Option, sym, refl, ap, ◌∙◌, ⊎_elim, arith}
 use Rattle.std.proofs.lemmas.Slice.Eq.{bytes_eq-Decides}
 use Rattle.std.proofs.lemmas.Bool.Decides.{not_from_Decides}
 use Rattle.std.proofs.lemmas.Bool.{cases_lt, cond_both}
-use Rattle.std.proofs.lemmas.List.{length_push, length-map, map_push, get_or_push, get_or_append_left}
+use Rattle.std.proofs.lemmas.List.{length_push, length-map, map_push, get_or_push, get_or_append_left, take_more_set}
 use Rattle.keys.specs.Places.{same_meaning, first_from, place_of, keys_with, keys_after}
 use Rattle.keys.specs.Promises.{meaning_at, Apart, SamePlaceSameMeaning, OwnPlaces, PlacesStay}
 
@@ -114,6 +114,21 @@ module _ {K : Type 0} (m : K → List ℕ) where
   pub stays_apart : (ks : List K) (size : ℕ) (new : K) → Apart m ks → Apart m (keys_after m ks size new)
   stays_apart ks size new apart = after m new (Apart m) ks size apart (apart_push ks new apart)
 
+  -- with a new key written behind the keys in use, these stay apart, and each keeps its place
+  pub apart_more : (row : List K) (used : ℕ) (new : K) → used < length row → None ≡ place_of m (take used row) new → Apart m (take used row) → Apart m (take (used + 1) (set row used new))
+  apart_more row used new h none apart = rw (take_more_set row used new h) (apart_push (take used row) new apart (sym none))
+
+  pub stay_more : (row : List K) (used : ℕ) (new : K) → used < length row → PlacesStay m (take used row) (take (used + 1) (set row used new))
+  unfolding PlacesStay
+  stay_more row used new h key i e = rw (take_more_set row used new h) (longer m key 0 i (take used row) (new ∷ []) e)
+
+  pub stay_same : (ks : List K) → PlacesStay m ks ks
+  unfolding PlacesStay
+  stay_same ks key i e = e
+
   pub apart_none : Apart m []
   unfolding Apart
   apart_none i j hi hj e = omega arith
+
+-- what `Register::add` promises beside its place and its keys
+pub ruleset adding = (same_place_same_meaning, own_places, stay_more, stay_same, apart_more)
