@@ -1,58 +1,61 @@
--- Questions to every lane and to every row: one item after the other.
-use Rattle.std.proofs.Common.{◌≡◌, ℕ, zero, suc, ◌<◌, ◌≤◌, Bool, true, false, not, ◌&&◌, List, [], ◌∷◌, length, get_or, is_some, Some, Option, sym, refl, ap, ◌∙◌, arith}
-use Rattle.std.proofs.lemmas.Bool.{and_from, and_left, and_right}
+-- Questions to every lane and to every row.
+use Rattle.std.proofs.Common.{◌≡◌, ℕ, zero, suc, ◌+◌, ◌<◌, Bool, true, false, cond, not, ◌&&◌, List, [], ◌∷◌, map, length, get_or, is_some, Some, None, Option, sym, refl, ap, ◌∙◌, subst, arith}
+use Rattle.std.specs.Option.{MatchOption}
+use Rattle.std.specs.List.{list_all, range_with_len}
 use Rattle.messages.specs.declared.kinds.Message.{Message}
+use Rattle.directory.specs.declared.rows.Row.{Row}
 use Rattle.directory.specs.declared.rows.Waiting.{Waiting}
-use Rattle.directory.specs.Directory.{Directory}
+use Rattle.directory.specs.Directory.{view_of}
 use Rattle.directory.specs.Lists.{first_of}
-use Rattle.transport.specs.declared.lanes.Lane.{Lane}
-use Rattle.transport.specs.Lanes.{Lists, lane_number, lane_at, oldest_of, oldest, oldest_at}
-use Rattle.calls.specs.Model.{fresh_row}
+use Rattle.directory.specs.declared.records.Record.{Record}
+use Rattle.directory.specs.Records.{row_in}
+use Rattle.directory.specs.Sound.{sound}
+use Rattle.transport.specs.Lanes.{Lists, lane_number, lane_at, oldest_of, oldest_at}
 use Rattle.calls.specs.Questions.{no_messages, lanes_empty, none_wait, rows_calm}
+use Rattle.pool.specs.Questions.{lane_of, lane_is_empty}
+use Rattle.pool.specs.Rows.{SoundRows}
 
--- a test f that asks p of each item
-module _ {X : Type 0} (p : X → Bool) (f : List X → Bool) (none : f [] ≡ true) (more : (x : X) (xs : List X) → f (x ∷ xs) ≡ (p x && f xs)) (d : X) where
-  some_fails : (xs : List X) (i : ℕ) → i < length xs → p (get_or xs i d) ≡ false → f xs ≡ false
-  some_fails [] i h e = absurd (omega arith)
-  some_fails (x ∷ xs) zero h e = more x xs ∙ and_left (p x) (f xs) e
-  some_fails (x ∷ xs) (suc i) h e = more x xs ∙ and_right (p x) (f xs) (some_fails xs i (omega arith) e)
+-- a test of each number from k on, where it tests the lists one after the other
+all_from : (lists : Lists) (test : ℕ → Bool) (k : ℕ) → ((i : ℕ) → i < length lists → test (k + i) ≡ no_messages (lane_at lists i)) → list_all test (range_with_len k (length lists)) ≡ lanes_empty lists
+all_from [] test k h = refl
+all_from (l ∷ ls) test k h =
+    let first : test (k + 0) ≡ no_messages l = h 0 (omega arith) in
+    let here : k + 0 ≡ k = omega arith in
+    let rest : list_all test (range_with_len (k + 1) (length ls)) ≡ lanes_empty ls = all_from ls test (k + 1) (λ i below. let next : (k + 1) + i ≡ k + suc i = omega arith in ap test next ∙ h (suc i) (omega arith)) in
+    cc
 
-  each_passes : (xs : List X) → ((i : ℕ) → i < length xs → p (get_or xs i d) ≡ true) → f xs ≡ true
-  each_passes [] h = none
-  each_passes (x ∷ xs) h = more x xs ∙ and_from (p x) (f xs) (h 0 (omega arith)) (each_passes xs (λ i l. h (suc i) (omega arith)))
+no_oldest : (l : List Message) → not (is_some (oldest_of l)) ≡ no_messages l
+no_oldest [] = refl
+no_oldest (m ∷ ms) = refl
 
-no_messages_lem : (l : List Message) → no_messages l ≡ not (is_some (oldest_of l))
-no_messages_lem [] = refl
-no_messages_lem (m ∷ ms) = refl
+lane_numbered : (i : ℕ) → i < 16 → lane_number (lane_of i) ≡ Some i
+lane_numbered i below = grind arith
 
-none_waits : (ws : List Waiting) → none_wait ws ≡ not (is_some (first_of ws))
+pub all_lanes : (lists : Lists) → length lists ≡ 16 → list_all (lane_is_empty lists) (range_with_len 0 16) ≡ lanes_empty lists
+all_lanes lists many =
+    subst (λ (n : ℕ). list_all (lane_is_empty lists) (range_with_len 0 n) ≡ lanes_empty lists) many
+    (all_from lists (lane_is_empty lists) 0 (λ i below. let here : 0 + i ≡ i = omega arith in ap (lane_is_empty lists) here ∙ ap (λ o. not (is_some (oldest_at lists o))) (lane_numbered i (omega arith)) ∙ no_oldest (lane_at lists i)))
+
+pub none_waits : (ws : List Waiting) → not (is_some (first_of ws)) ≡ none_wait ws
 none_waits [] = refl
 none_waits (w ∷ ws) = refl
 
--- what a look at the lane of number i says of its list
-module _ (lists : Lists) (lane : Lane) (i : ℕ) (number : lane_number lane ≡ Some i) (looked : Option Message) (is : looked ≡ oldest lists lane) (b : Bool) (asked : b ≡ is_some looked) where
-  lane_empty : no_messages (lane_at lists i) ≡ not b
-  lane_empty = no_messages_lem (lane_at lists i) ∙ ap (λ (o : Option Message). not (is_some o)) (sym (is ∙ ap (oldest_at lists) number)) ∙ ap not (sym asked)
+-- a row's test, from what the check of the row and the record's question say
+pub row_calm : (row : Row) (r : Option Record) → row_in r ≡ cond (sound (view_of row)) (Some row) None → (b : Bool) → MatchOption r (b ≡ false) (λ x. b ≡ not (is_some (first_of (view_of x.row).waiting))) → b ≡ (sound (view_of row) && none_wait (view_of row).waiting)
+row_calm row r e b h = go (sound (view_of row)) r e h
+  where
+    go : (s : Bool) (o : Option Record) → row_in o ≡ cond s (Some row) None → MatchOption o (b ≡ false) (λ x. b ≡ not (is_some (first_of (view_of x.row).waiting))) → b ≡ (s && none_wait (view_of row).waiting)
+    go true None e h = cc
+    go false None e h = h
+    go true (Some x) e h =
+        let same : x.row ≡ row = cc in
+        h ∙ none_waits (view_of x.row).waiting ∙ ap (λ (y : Row). none_wait (view_of y).waiting) same
+    go false (Some x) e h = cc
 
-  pub lane_waits : b ≡ true → i < length lists → false ≡ lanes_empty lists
-  lane_waits e h = sym (some_fails no_messages lanes_empty refl (λ x xs. refl) [] lists i h (lane_empty ∙ ap not e))
-
-  pub lane_is_empty : b ≡ false → no_messages (lane_at lists i) ≡ true
-  lane_is_empty e = lane_empty ∙ ap not e
-
-pub lanes_all_empty : (lists : Lists) (n : ℕ) → length lists ≤ n → ((i : ℕ) → i < n → no_messages (lane_at lists i) ≡ true) → true ≡ lanes_empty lists
-lanes_all_empty lists n l h = sym (each_passes no_messages lanes_empty refl (λ x xs. refl) [] lists (λ i k. h i (omega arith)))
-
--- what a record's question says of its row
-module _ (ds : List Directory) (place : ℕ) (d : Directory) (is : d ≡ get_or ds place fresh_row) (b : Bool) (asked : b ≡ is_some (first_of d.waiting)) where
-  row_calm : none_wait (get_or ds place fresh_row).waiting ≡ not b
-  row_calm = none_waits (get_or ds place fresh_row).waiting ∙ ap (λ (x : Directory). not (is_some (first_of x.waiting))) (sym is) ∙ ap not (sym asked)
-
-  pub row_waits : b ≡ true → place < length ds → false ≡ rows_calm ds
-  row_waits e h = sym (some_fails (λ x. none_wait x.waiting) rows_calm refl (λ x xs. refl) fresh_row ds place h (row_calm ∙ ap not e))
-
-  pub row_is_calm : b ≡ false → none_wait (get_or ds place fresh_row).waiting ≡ true
-  row_is_calm e = row_calm ∙ ap not e
-
-pub rows_all_calm : (ds : List Directory) (n : ℕ) → length ds ≤ n → ((place : ℕ) → place < n → none_wait (get_or ds place fresh_row).waiting ≡ true) → true ≡ rows_calm ds
-rows_all_calm ds n l h = sym (each_passes (λ x. none_wait x.waiting) rows_calm refl (λ x xs. refl) fresh_row ds (λ i k. h i (omega arith)))
+pub all_rows : (rows : List Row) → SoundRows (map view_of rows) → list_all (λ row. sound (view_of row) && none_wait (view_of row).waiting) rows ≡ rows_calm (map view_of rows)
+all_rows [] ok = refl
+all_rows (row ∷ rows) ok =
+    let here : sound (view_of row) ≡ true = ok 0 in
+    let rest : list_all (λ row. sound (view_of row) && none_wait (view_of row).waiting) rows ≡ rows_calm (map view_of rows) = all_rows rows (λ place. ok (suc place)) in
+    ap (λ (b : Bool). (b && none_wait (view_of row).waiting) && list_all (λ row. sound (view_of row) && none_wait (view_of row).waiting) rows) here
+    ∙ ap (λ (b : Bool). none_wait (view_of row).waiting && b) rest

@@ -7,5 +7,6 @@ pub mod Openings
 pub mod Loads
 pub mod Models
 pub mod Asking
+pub mod Stepping
 pub mod Ties
 pub mod Wholes

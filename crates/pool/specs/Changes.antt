@@ -1,8 +1,10 @@
 -- What a call that is not refused does, decided before anything is written.
-use Rattle.std.specs.Prelude.{◌≡◌, ℕ, ◌+◌, ◌*◌, ◌<◌, true, List, Some, None, Ok, Err, Option, Result, slice_set}
+use Rattle.std.specs.Prelude.{◌≡◌, ℕ, ◌+◌, ◌*◌, true, List, Some, None, Ok, Err, Option, Result, slice_set}
 use Rattle.directory.specs.Directory.{view_of}
 use Rattle.transport.specs.declared.lanes.Lane.{Lane}
 use Rattle.transport.specs.Lanes.{Lists, Rule, taken}
+use Rattle.line.specs.declared.states.State.{State}
+use Rattle.line.specs.Outcomes.{Outcome}
 use Rattle.calls.specs.declared.faults.Fault.{Fault}
 use Rattle.calls.specs.declared.slots.Counts.{Counts}
 use Rattle.calls.specs.Faults.{facts_of}
@@ -12,7 +14,7 @@ use Rattle.calls.specs.Directories.{with_row}
 use Rattle.calls.specs.Zones.{Done}
 use Rattle.pool.specs.declared.line_changes.LineChange.{LineChange}
 use Rattle.pool.specs.declared.row_changes.RowChange.{RowChange}
-use Rattle.pool.specs.Acts.{state_after}
+use Rattle.pool.specs.Steps.{state_in}
 
 -- the lanes once a delivered message is taken
 abbrev pub after_take : Lists → Option Lane → Lists
@@ -26,28 +28,27 @@ counts_with counts zone (Some c) = slice_set counts zone c
 
 -- ── a change of one line ──
 
--- the pool after a change of one line
-abbrev pub line_changed : Model → LineChange → Model
-line_changed m ch =
-    record {
-      plan = m.plan;
-      lanes = sent_up (after_take m.lanes ch.delivered) ch.zone ch.place ch.sent;
-      slots = slice_set m.slots (ch.zone * 32 + ch.place) (slot (state_after ch.act (state_at m ch.zone ch.place)) ch.number);
-      rows = m.rows;
-      next = ch.next;
-      counts = counts_with m.counts ch.zone ch.counts;
-    }
+module _ {S : Type 0} where
+  -- the pool after a change of one line, whose step comes to what `outcome` says
+  abbrev pub line_changed : (S → State → Outcome) → Model → LineChange S → Model
+  line_changed outcome m ch =
+      record {
+        plan = m.plan;
+        lanes = sent_up (after_take m.lanes ch.delivered) ch.zone ch.place ch.sent;
+        slots = slice_set m.slots (ch.zone * 32 + ch.place) (slot (state_in (outcome ch.step (state_at m ch.zone ch.place))) ch.number);
+        rows = m.rows;
+        next = ch.next;
+        counts = counts_with m.counts ch.zone ch.counts;
+      }
 
--- a decision as an outcome
-abbrev pub line_done : Model → Result LineChange Fault → Done
-line_done m (Ok ch) = Ok (ch.report, line_changed m ch)
-line_done m (Err f) = Err (facts_of f)
+  -- a decision as an outcome
+  abbrev pub line_done : (S → State → Outcome) → Model → Result (LineChange S) Fault → Done
+  line_done outcome m (Ok ch) = Ok (ch.report, line_changed outcome m ch)
+  line_done outcome m (Err f) = Err (facts_of f)
 
--- a change that can be made: its line is in the table, and there is room for what it sends
-pub record LineReady (room : Rule) (lists : Lists) (ch : LineChange) : Type 0 where
-  pub zone_below : ch.zone < 8
-  pub place_below : ch.place < 32
-  pub space : up_admits room lists ch.zone ch.sent ≡ true
+  -- a change that can be made: there is room for what its line sends
+  abbrev pub LineReady : Rule → Lists → LineChange S → Type 0
+  LineReady room lists ch = up_admits room lists ch.zone ch.sent ≡ true
 
 -- ── a change of one row ──
 
@@ -60,7 +61,6 @@ abbrev pub row_done : Model → Result RowChange Fault → Done
 row_done m (Ok ch) = Ok (ch.report, row_changed m ch)
 row_done m (Err f) = Err (facts_of f)
 
--- a change that can be made: its row is in the table, and there is room for what it sends
-pub record RowReady (room : Rule) (lists : Lists) (ch : RowChange) : Type 0 where
-  pub place_below : ch.place < 32
-  pub space : down_admits room lists ch.outgoing.to ≡ true
+-- a change that can be made: there is room for what the directory sends
+abbrev pub RowReady : Rule → Lists → RowChange → Type 0
+RowReady room lists ch = down_admits room lists ch.outgoing.to ≡ true

@@ -1,9 +1,10 @@
 pub mod Rows
-pub mod Acts
+pub mod Steps
 pub mod Tidy
 pub mod Pools
 pub mod Changes
 pub mod Stocks
 pub mod Laws
 pub mod Questions
+pub mod Naming
 pub mod Whole

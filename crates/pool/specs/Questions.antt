@@ -1,6 +1,9 @@
 -- Questions to a pool, besides what a zone can read, what it holds exclusively, and whether the pool is quiet.
-use Rattle.std.specs.Prelude.{ℕ, cond, Some, None, Option, nat_lt}
+use Rattle.std.specs.Prelude.{ℕ, ◌-◌, Bool, cond, not, is_some, Some, None, Option, nat_lt}
 use Rattle.line.specs.declared.lines.Line.{Line}
+use Rattle.transport.specs.declared.lanes.Lane.{Lane}
+use Rattle.transport.specs.declared.lanes.Lane.TheVariants.{Up, Down}
+use Rattle.transport.specs.Lanes.{Lists, oldest}
 use Rattle.rules.specs.Shares.{hit_share}
 use Rattle.calls.specs.declared.slots.Counts.{Counts}
 use Rattle.calls.specs.Model.{Model, slot_at, counts_at}
@@ -9,6 +12,14 @@ use Rattle.calls.specs.Model.{Model, slot_at, counts_at}
 abbrev pub line_at : Model → ℕ → Option ℕ → Option Line
 line_at m zone None = None
 line_at m zone (Some place) = cond (nat_lt zone m.plan.zones) (Some (slot_at m zone place).line) None
+
+-- the lane of a number: the up lanes by zone, then the down lanes
+abbrev pub lane_of : ℕ → Lane
+lane_of number = cond (nat_lt number 8) (Up number) (Down (number - 8))
+
+-- whether nothing is to be taken from the lane of a number
+abbrev pub lane_is_empty : Lists → ℕ → Bool
+lane_is_empty lists number = not (is_some (oldest lists (lane_of number)))
 
 -- a zone's counts, where the pool has the zone
 abbrev pub zone_counts : Model → ℕ → Option Counts

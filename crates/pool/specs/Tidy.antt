@@ -1,5 +1,5 @@
 -- Tables in which each place has what was loaded there, and nothing else.
-use Rattle.std.specs.Prelude.{◌≡◌, ℕ, ◌+◌, ◌*◌, ◌<◌, Bool, true, false, cond, not, ◌&&◌, List, [], ◌∷◌, get_or, is_some, ◌==◌, nat_lt, slice_index_or}
+use Rattle.std.specs.Prelude.{◌≡◌, ℕ, ◌+◌, ◌*◌, ◌<◌, Bool, true, false, cond, not, ◌&&◌, List, [], ◌∷◌, is_some, ◌==◌, nat_lt, slice_index_or}
 use Rattle.line.specs.declared.states.State.{State}
 use Rattle.line.specs.declared.states.State.TheVariants.{Invalid, Exclusive, SharedOwned, SharedUnowned, WaitingExclusion, WaitingExclusionIfAny, WaitingPurge, WaitingSharedData, WaitingExclusiveData, WaitingExclusiveDataIfAny, WaitingPurgeData}
 use Rattle.directory.specs.Directory.{Directory}
@@ -57,4 +57,4 @@ TidyRows rows = (place : ℕ) → tidy_row (slice_index_or rows place fresh_row)
 -- the line of each zone and place is as loading leaves it
 abbrev pub TidyLines : List Slot → List Directory → Type 0
 TidyLines slots rows =
-    (zone place : ℕ) → (zone < 8) × (place < 32) → tidy_line (get_or rows place fresh_row).list zone (get_or slots (zone * 32 + place) blank_slot).line.state ≡ true
+    (zone place : ℕ) → (zone < 8) × (place < 32) → tidy_line (slice_index_or rows place fresh_row).list zone (slice_index_or slots (zone * 32 + place) blank_slot).line.state ≡ true

@@ -1,5 +1,5 @@
 // Delivery of the oldest message of a zone's up lane to the directory.
-ghost use Rattle.std.specs.Prelude.{◌≡◌, ◌<◌, IfOk, OnErr};
+ghost use Rattle.std.specs.Prelude.{◌≡◌, IfOk, OnErr};
 ghost use Rattle.directory.specs.Arrivals.{delivered};
 ghost use Rattle.calls.specs.Directories.{up_by, up_call};
 ghost use Rattle.calls.specs.Faults.{seen};
@@ -7,34 +7,36 @@ ghost use Rattle.calls.specs.Model.{row_at};
 ghost use Rattle.pool.specs.Pools.{model_of, done_keyless};
 ghost use Rattle.pool.specs.Changes.{row_done, RowReady};
 
+use crate::naming::{due, zone_named};
 use crate::opened::Opened;
 use crate::row_changes::RowChange;
 use calls::faults::Fault;
 use calls::reports::Report;
 use messages::kinds::Kind;
-use messages::refusals::Refusal;
+use rules::plan::places::Place;
+use rules::plan::zones::Zone;
 use transport::faults::Subject;
 use transport::interface::Transport;
 use transport::lanes::Lane;
 
 impl<T: Transport> Opened<T> {
     // Refusals 17 and 11, or the change.
-    fn up_at(&self, zone: u8, place: u8, kind: Kind) -> Result<RowChange, Fault>
-        requires { place < 32 }
+    fn up_at(&self, zone: Zone, place: Place, kind: Kind) -> Result<RowChange, Fault>
         ensures outcome { row_done (model_of T.Transport self.now) result ≡ up_by T.room (model_of T.Transport self.now) zone place (delivered kind zone (row_at (model_of T.Transport self.now) place)) }
         ensures ready { IfOk result (λ ch. RowReady T.room (T.waiting self.now.transport) ch) }
     {
+        let zone = zone.number();
         let mut record = self.tables.record(place);
-        match record.deliver(zone, kind) {
-            Ok(effect) => self.row_change(
-                Subject::Zone(zone),
-                place,
-                record,
-                effect,
-                Some(Lane::Up(zone)),
-            ),
-            Err(refusal) => Err(Fault::at_zone(refusal, zone)),
-        }
+        let effect = record
+            .deliver(zone, kind)
+            .map_err(|refusal| Fault::at_zone(refusal, zone))?;
+        self.row_change(
+            Subject::Zone(zone),
+            place,
+            record,
+            effect,
+            Some(Lane::Up(zone)),
+        )
     }
 
     // Refusals 6 and 14 come before.
@@ -42,16 +44,9 @@ impl<T: Transport> Opened<T> {
         ensures outcome { row_done (model_of T.Transport self.now) result ≡ up_call T.room (model_of T.Transport self.now) zone }
         ensures ready { IfOk result (λ ch. RowReady T.room (T.waiting self.now.transport) ch) }
     {
-        if zone >= self.plan.zones() {
-            return Err(Fault::at_zone(Refusal::NoSuchZone, zone));
-        }
-        let Some(message) = self.transport.look(Lane::Up(zone)) else {
-            return Err(Fault::at_zone(Refusal::LaneEmpty, zone));
-        };
-        if message.place >= 32 {
-            return Err(Fault::at_zone(Refusal::Misplaced, zone));
-        }
-        self.up_at(zone, message.place, message.kind)
+        let zone = zone_named(self.plan, zone)?;
+        let (place, kind) = due(&self.transport, zone, Lane::Up(zone.number()))?;
+        self.up_at(zone, place, kind)
     }
 
     // Delivers the oldest message of a zone's up lane.

@@ -1,5 +1,5 @@
 // Let-go: a zone drops a copy that it shares and does not own.
-ghost use Rattle.std.specs.Prelude.{◌≡◌, ◌<◌, IfOk, OnErr};
+ghost use Rattle.std.specs.Prelude.{◌≡◌, IfOk, OnErr};
 ghost use Rattle.keys.specs.Places.{place_of};
 ghost use Rattle.keys.specs.Registers.{in_use};
 ghost use Rattle.line.specs.LetGo.{let_go};
@@ -11,61 +11,48 @@ ghost use Rattle.pool.specs.Pools.{model_of};
 ghost use Rattle.pool.specs.Changes.{line_done, LineReady};
 
 use crate::line_changes::LineChange;
+use crate::line_steps::{LettingGo, LineStep};
+use crate::naming::{place_named, zone_named};
 use crate::opened::Opened;
-use crate::tables::steps::Act;
+use crate::reports::silent;
 use calls::faults::Fault;
 use calls::reports::Report;
 use keys::key::Key;
 use keys::register::Register;
 use messages::refusals::Refusal;
+use rules::plan::places::Place;
+use rules::plan::zones::Zone;
 use transport::interface::Transport;
 
 impl<T: Transport> Opened<T> {
     // Refusals 12 and 11, or the change.
-    fn let_go_at(&self, zone: u8, place: u8) -> Result<LineChange, Fault>
-        requires { (zone < 8) × (place < 32) }
-        ensures outcome { line_done (model_of T.Transport self.now) result ≡ let_go_by T.room (model_of T.Transport self.now) zone place (let_go (state_at (model_of T.Transport self.now) zone place)) }
+    fn let_go_at(&self, zone: Zone, place: Place) -> Result<LineChange<LettingGo>, Fault>
+        ensures outcome { line_done ⟦<LettingGo as LineStep>⟧.outcome (model_of T.Transport self.now) result ≡ let_go_by T.room (model_of T.Transport self.now) zone place (let_go (state_at (model_of T.Transport self.now) zone place)) }
         ensures ready { IfOk result (λ ch. LineReady T.room (T.waiting self.now.transport) ch) }
     {
-        let slot = self.tables.slots[zone as usize * 32 + place as usize];
-        let mut line = slot.line;
-        let effect = match line.let_go() {
-            Ok(effect) => effect,
-            Err(refusal) => return Err(Fault::at_zone(refusal, zone)),
-        };
+        let effect = self.foresee(zone, place, LettingGo)?;
         self.admits_up(zone, effect.sent)?;
         Ok(LineChange {
             zone,
             place,
-            act: Act::LetGo,
-            number: slot.number,
+            step: LettingGo,
+            number: self.tables.slot(zone, place).number,
             delivered: None,
             sent: effect.sent,
             next: self.next,
             counts: None,
-            report: Report {
-                number: None,
-                settled: None,
-                answered: None,
-            },
+            report: silent(),
         })
     }
 
     // Refusals 6 and 13 come before.
-    fn decide_let_go(&self, place: Option<usize>, zone: u8) -> Result<LineChange, Fault>
-        ensures outcome { line_done (model_of T.Transport self.now) result ≡ let_go_call T.room (model_of T.Transport self.now) place zone }
+    fn decide_let_go(&self, place: Option<usize>, zone: u8) -> Result<LineChange<LettingGo>, Fault>
+        ensures outcome { line_done ⟦<LettingGo as LineStep>⟧.outcome (model_of T.Transport self.now) result ≡ let_go_call T.room (model_of T.Transport self.now) place zone }
         ensures ready { IfOk result (λ ch. LineReady T.room (T.waiting self.now.transport) ch) }
     {
-        if zone >= self.plan.zones() {
-            return Err(Fault::at_zone(Refusal::NoSuchZone, zone));
-        }
-        let Some(place) = place else {
-            return Err(Fault::at_zone(Refusal::UnknownKey, zone));
-        };
-        if place >= self.plan.places() as usize {
-            return Err(Fault::at_zone(Refusal::UnknownKey, zone));
-        }
-        self.let_go_at(zone, place as u8)
+        let known = zone_named(self.plan, zone)?;
+        let place = place_named(self.plan, place).ok_or(Fault::at_zone(Refusal::UnknownKey, zone))?;
+        self.let_go_at(known, place)
     }
 
     // Drops a copy that the zone shares and does not own.

@@ -2,7 +2,9 @@
 #![tactic(auto)]
 
 pub mod loading;
+mod naming;
 pub mod opened;
+mod reports;
 pub mod running;
 mod tables;
 
@@ -10,6 +12,7 @@ mod tables;
 mod deliver_down;
 mod let_go;
 mod line_changes;
+mod line_steps;
 mod start;
 
 // The calls on the directory, and what they change.

@@ -1,27 +1,28 @@
 // A step of the directory, decided before anything is written, and how it is carried out.
-ghost use Rattle.std.specs.Prelude.{◌≡◌, ◌<◌, true, IfOk, if◌then◌else◌, Ok, Err};
+ghost use Rattle.std.specs.Prelude.{◌≡◌, true, IfOk, if◌then◌else◌, Ok, Err};
 ghost use Rattle.directory.specs.Directory.{view_of};
 ghost use Rattle.transport.specs.Faults.{told, refused};
-ghost use Rattle.calls.specs.Directories.{number_of, if_down_room};
+ghost use Rattle.calls.specs.Directories.{if_down_room};
 ghost use Rattle.calls.specs.Sending.{sends_any, sent_down, down_admits};
 ghost use Rattle.pool.specs.Pools.{model_of};
 ghost use Rattle.pool.specs.Changes.{after_take, row_changed, row_done, RowReady};
 
 use crate::opened::Opened;
+use crate::reports::settled_report;
 use calls::faults::Fault;
 use calls::reports::Report;
 use directory::records::Record;
 use directory::rows::Effect;
 use messages::kinds::Outgoing;
+use rules::plan::places::Place;
 use transport::faults::{Subject, TransportFault};
 use transport::interface::Transport;
 use transport::lanes::{Lane, LaneSet};
 use transport::sending::{admit, send_all};
 
 // The record of one place after its step, and all that goes with it.
-#[derive(Clone, Copy)]
 pub struct RowChange {
-    pub(crate) place: u8,
+    pub(crate) place: Place,
     pub(crate) kept: Record,
     // the lane whose oldest message is delivered, and what the directory sends down
     pub(crate) delivered: Option<Lane>,
@@ -32,19 +33,14 @@ pub struct RowChange {
 fn sends_any(outgoing: Outgoing) -> bool
     ensures { result ≡ sends_any outgoing.to }
 {
-    for zone in 0..8 {
-        if outgoing.to[zone].is_some() {
-            return true;
-        }
-    }
-    false
+    outgoing.to.iter().any(|down| down.is_some())
 }
 
 // Takes a delivered message, and sends down what there is room for.
 fn carry_down<T: Transport>(
     transport: &mut T,
     delivered: Option<Lane>,
-    place: u8,
+    place: Place,
     outgoing: Outgoing,
 )
     requires { down_admits T.room (T.waiting transport.old) outgoing.to ≡ true }
@@ -54,7 +50,12 @@ fn carry_down<T: Transport>(
         let _ = transport.take(lane);
     }
     if sends_any(outgoing) {
-        let _ = send_all(transport, place, outgoing, Subject::Place(place));
+        let _ = send_all(
+            transport,
+            place.number(),
+            outgoing,
+            Subject::Place(place.number()),
+        );
     }
 }
 
@@ -69,42 +70,25 @@ impl<T: Transport> Opened<T> {
         admit(&self.transport, LaneSet::down_to(outgoing), subject)
     }
 
-    // The number of the request that a zone waits for at a place.
-    fn number_of(&self, place: u8, zone: Option<u8>) -> Option<u32>
-        requires { place < 32 }
-        ensures { result ≡ number_of (model_of T.Transport self.now) place zone }
-    {
-        match zone {
-            None => None,
-            Some(zone) => Some(self.tables.number(zone, place)),
-        }
-    }
-
     // Refusal 11, or the change that a step of the directory makes.
     pub(crate) fn row_change(
         &self,
         subject: Subject,
-        place: u8,
+        place: Place,
         kept: Record,
         effect: Effect,
         delivered: Option<Lane>,
     ) -> Result<RowChange, Fault>
-        requires { place < 32 }
         ensures outcome { row_done (model_of T.Transport self.now) result ≡ if_down_room T.room (model_of T.Transport self.now) subject place effect.outgoing.to effect.settled (view_of kept.row) (after_take (T.waiting self.now.transport) delivered) }
         ensures ready { IfOk result (λ ch. RowReady T.room (T.waiting self.now.transport) ch) }
     {
         self.admits_down(effect.outgoing, subject)?;
-        let settled = self.number_of(place, effect.settled);
         Ok(RowChange {
             place,
             kept,
             delivered,
             outgoing: effect.outgoing,
-            report: Report {
-                number: None,
-                settled,
-                answered: None,
-            },
+            report: settled_report(effect.settled.map(|zone| self.tables.number(zone, place))),
         })
     }
 
@@ -114,13 +98,15 @@ impl<T: Transport> Opened<T> {
         ensures report { result ≡ change.report }
         ensures model { model_of T.Transport self.new ≡ row_changed (model_of T.Transport self.old) change }
     {
-        carry_down(
-            &mut self.transport,
-            change.delivered,
-            change.place,
-            change.outgoing,
-        );
-        self.tables.keep(change.place, change.kept);
-        change.report
+        let RowChange {
+            place,
+            kept,
+            delivered,
+            outgoing,
+            report,
+        } = change;
+        carry_down(&mut self.transport, delivered, place, outgoing);
+        self.tables.keep(place, kept);
+        report
     }
 }

@@ -1,6 +1,6 @@
 // A whole run: it makes a pool and a register, loads a stock, opens the pool and performs a list of calls.
-ghost use Rattle.std.specs.Prelude.{◌≡◌, map, length, MatchResult};
-ghost use Rattle.calls.specs.Faults.{seen};
+ghost use Rattle.std.specs.Prelude.{◌≡◌, ◌≤◌, [], map, length, Some, MatchResult, vec_capacity};
+ghost use Rattle.calls.specs.Faults.{facts_of, seen};
 ghost use Rattle.pool.specs.declared.running.RunFault.TheVariants.{Memory, Pool};
 ghost use Rattle.pool.specs.Whole.{Ran, StoppedBy, stop_facts};
 
@@ -38,6 +38,26 @@ impl From<Fault> for RunFault {
     }
 }
 
+// The stock and then the calls, each result into the row that is reserved for them.
+fn run_into<T: Transport + Drop, K: Key + Copy>(
+    plan: Plan,
+    transport: T,
+    row: &mut [K],
+    stock: &[Stock<K>],
+    calls: &[Call<K>],
+    answers: &mut Vec<Result<Report, Fault>>,
+) -> Result<(), Fault>
+    requires { (answers.old.items ≡ []) × (length calls.now ≤ vec_capacity answers.old) }
+    ensures { MatchResult result (λ _. Ran T.room K.meaning plan (length row.old) stock.now calls.now (map seen answers.new.items)) (λ f. StoppedBy T.room K.meaning plan (length row.old) stock.now calls.now (Some (facts_of f))) }
+{
+    let mut register = Register::new(row);
+    let mut loading = Loading::new(plan, transport);
+    loading.load_all(&mut register, stock)?;
+    let mut pool = loading.open();
+    pool.perform(&mut register, calls, answers);
+    Ok(())
+}
+
 // Want of memory is found before anything is done. The results obey the law over runs.
 pub fn run<T: Transport + Drop, K: Key + Copy>(
     plan: Plan,
@@ -50,10 +70,6 @@ pub fn run<T: Transport + Drop, K: Key + Copy>(
     ensures { MatchResult result (λ v. Ran T.room K.meaning plan (length row.old) stock.now calls.now (map seen v.items)) (λ f. StoppedBy T.room K.meaning plan (length row.old) stock.now calls.now (stop_facts f)) }
 {
     let mut answers = Vec::with_capacity(heap, calls.len())?;
-    let mut register = Register::new(row);
-    let mut loading = Loading::new(plan, transport);
-    loading.load_all(&mut register, stock)?;
-    let mut pool = loading.open();
-    pool.perform(&mut register, calls, &mut answers);
+    run_into(plan, transport, row, stock, calls, &mut answers)?;
     Ok(answers)
 }

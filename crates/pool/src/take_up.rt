@@ -1,5 +1,5 @@
 // Take-up: the directory serves the first request that waits for a key.
-ghost use Rattle.std.specs.Prelude.{◌≡◌, ◌<◌, IfOk, OnErr};
+ghost use Rattle.std.specs.Prelude.{◌≡◌, IfOk, OnErr};
 ghost use Rattle.directory.specs.TakeUp.{taken_up};
 ghost use Rattle.keys.specs.Places.{place_of};
 ghost use Rattle.keys.specs.Registers.{in_use};
@@ -10,6 +10,7 @@ ghost use Rattle.calls.specs.Outcomes.{done};
 ghost use Rattle.pool.specs.Pools.{model_of};
 ghost use Rattle.pool.specs.Changes.{row_done, RowReady};
 
+use crate::naming::place_named;
 use crate::opened::Opened;
 use crate::row_changes::RowChange;
 use calls::faults::Fault;
@@ -17,21 +18,21 @@ use calls::reports::Report;
 use keys::key::Key;
 use keys::register::Register;
 use messages::refusals::Refusal;
+use rules::plan::places::Place;
 use transport::faults::Subject;
 use transport::interface::Transport;
 
 impl<T: Transport> Opened<T> {
     // Refusals 15, 16, 17 and 11, or the change.
-    fn take_up_at(&self, place: u8) -> Result<RowChange, Fault>
-        requires { place < 32 }
+    fn take_up_at(&self, place: Place) -> Result<RowChange, Fault>
         ensures outcome { row_done (model_of T.Transport self.now) result ≡ take_up_by T.room (model_of T.Transport self.now) place (taken_up (row_at (model_of T.Transport self.now) place)) }
         ensures ready { IfOk result (λ ch. RowReady T.room (T.waiting self.now.transport) ch) }
     {
         let mut record = self.tables.record(place);
-        match record.take_up() {
-            Ok(effect) => self.row_change(Subject::Place(place), place, record, effect, None),
-            Err(refusal) => Err(Fault::at_place(refusal, place)),
-        }
+        let effect = record
+            .take_up()
+            .map_err(|refusal| Fault::at_place(refusal, place.number()))?;
+        self.row_change(Subject::Place(place.number()), place, record, effect, None)
     }
 
     // Refusal 13 comes before.
@@ -39,13 +40,8 @@ impl<T: Transport> Opened<T> {
         ensures outcome { row_done (model_of T.Transport self.now) result ≡ take_up_call T.room (model_of T.Transport self.now) place }
         ensures ready { IfOk result (λ ch. RowReady T.room (T.waiting self.now.transport) ch) }
     {
-        let Some(place) = place else {
-            return Err(Fault::of_nothing(Refusal::UnknownKey));
-        };
-        if place >= self.plan.places() as usize {
-            return Err(Fault::of_nothing(Refusal::UnknownKey));
-        }
-        self.take_up_at(place as u8)
+        let place = place_named(self.plan, place).ok_or(Fault::of_nothing(Refusal::UnknownKey))?;
+        self.take_up_at(place)
     }
 
     // Serves the first request that waits for a key.

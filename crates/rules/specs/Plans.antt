@@ -1,5 +1,5 @@
 -- The sizes of a plan: their ranges, and the order in which they are checked.
-use Rattle.std.specs.Prelude.{ℕ, Bool, cond, ◌&&◌, Ok, Err, Result, ◌==◌, nat_le}
+use Rattle.std.specs.Prelude.{ℕ, Bool, cond, ◌&&◌, Some, None, Ok, Err, Option, Result, ◌==◌, nat_lt, nat_le}
 use Rattle.messages.specs.declared.refusals.Refusal.{Refusal}
 use Rattle.messages.specs.Refusals.{refusal_number}
 use Rattle.rules.specs.declared.plan.Plan.{Plan}
@@ -33,3 +33,15 @@ sizes_of plan = record { zones = plan.zones; places = plan.places; first = plan.
 abbrev pub read_plan : Result Plan Refusal → Result Sizes ℕ
 read_plan (Ok plan) = Ok (sizes_of plan)
 read_plan (Err e) = Err (refusal_number e)
+
+-- a zone, where the plan has it
+abbrev pub zone_in : Plan → ℕ → Option ℕ
+zone_in plan zone = cond (nat_lt zone plan.zones) (Some zone) None
+
+-- a place, where the plan has it
+abbrev pub place_in : Plan → ℕ → Option ℕ
+place_in plan place = cond (nat_lt place plan.places) (Some place) None
+
+-- a place that some plan has
+abbrev pub any_place : ℕ → Option ℕ
+any_place place = cond (nat_lt place 32) (Some place) None

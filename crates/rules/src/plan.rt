@@ -1,6 +1,8 @@
 ghost use Rattle.std.specs.Prelude.{◌≤◌};
 
+pub mod places;
 mod sizes;
+pub mod zones;
 
 // The sizes of a pool and its first request number. A plan is had only through the check of `Plan::new`, so every plan is in range.
 #[derive(Clone, Copy)]

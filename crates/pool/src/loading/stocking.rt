@@ -8,9 +8,10 @@ ghost use Rattle.calls.specs.Faults.{seen};
 ghost use Rattle.calls.specs.Model.{blank_slot, row_at};
 ghost use Rattle.calls.specs.Opening.{TiedTo};
 ghost use Rattle.pool.specs.Laws.{Tied};
-ghost use Rattle.pool.specs.Stocks.{opens_as, unloaded, loaded_with, load_free, load_place, load_one, load_all, loads_in, stocked_from};
+ghost use Rattle.pool.specs.Stocks.{opens_as, unloaded, loaded_with, load_free, load_in, load_one, load_all, loads_in, stocked_from};
 
 use crate::loading::Loading;
+use crate::naming::{place_named, zone_named};
 use crate::tables::Tables;
 use calls::faults::Fault;
 use calls::stock::Stock;
@@ -18,6 +19,8 @@ use keys::key::Key;
 use keys::register::Register;
 use messages::refusals::Refusal;
 use rules::plan::Plan;
+use rules::plan::places::Place;
+use rules::plan::zones::Zone;
 use transport::interface::Transport;
 
 impl<T: Transport + Drop> Loading<T> {
@@ -36,24 +39,18 @@ impl<T: Transport + Drop> Loading<T> {
         }
     }
 
-    // The place that a load writes, or refusal 6, 8 or 4.
-    fn free_place(&self, zone: u8, place: Option<usize>) -> Result<u8, Fault>
-        ensures place { seen result ≡ load_place (opens_as self.now) zone place }
-        ensures free { IfOk result (λ p. (zone < 8) × (p < 32) × ((row_at (opens_as self.now) p).list ≡ [])) }
+    // The place that a load writes, or refusal 8 or 4.
+    fn free_place(&self, zone: Zone, place: Option<usize>) -> Result<Place, Fault>
+        ensures place { seen result ≡ load_in (opens_as self.now) zone place }
+        ensures free { IfOk result (λ place. (row_at (opens_as self.now) place).list ≡ []) }
     {
-        if zone >= self.plan.zones() {
-            return Err(Fault::at_zone(Refusal::NoSuchZone, zone));
-        }
-        let Some(place) = place else {
-            return Err(Fault::at_zone(Refusal::NoPlace, zone));
-        };
-        if place >= self.plan.places() as usize {
-            return Err(Fault::at_zone(Refusal::NoPlace, zone));
-        }
-        let free = place as u8;
-        match self.tables.record(free).owner() {
-            Some(_) => Err(Fault::at_zone(Refusal::AlreadyLoaded, zone)),
-            None => Ok(free),
+        let place = place_named(self.plan, place).ok_or(Fault::at_zone(
+            Refusal::NoPlace,
+            zone.number(),
+        ))?;
+        match self.tables.record(place).owner() {
+            Some(_) => Err(Fault::at_zone(Refusal::AlreadyLoaded, zone.number())),
+            None => Ok(place),
         }
     }
 
@@ -69,9 +66,10 @@ impl<T: Transport + Drop> Loading<T> {
         ensures kept { RowKept register.old register.new }
         ensures refusal_changes_nothing { OnErr result ((opens_as self.new ≡ opens_as self.old) × (in_use register.new ≡ in_use register.old)) }
     {
-        let place = self.free_place(stock.zone, register.place(&stock.key))?;
+        let zone = zone_named(self.plan, stock.zone)?;
+        let place = self.free_place(zone, register.place(&stock.key))?;
         let _ = register.add(stock.key);
-        self.tables.load(stock.zone, place, stock.assignment);
+        self.tables.load(zone, place, stock.assignment);
         Ok(())
     }
 

@@ -1,36 +1,35 @@
 // What the calls do to the tables: one slot, one row or one zone's counts at a time.
-ghost use Rattle.std.specs.Prelude.{◌≡◌, ◌+◌, ◌*◌, ◌<◌, [], ◌∷◌, map, get_or, replicate, None, slice_index_or, slice_set};
+ghost use Rattle.std.specs.Prelude.{◌≡◌, ◌+◌, ◌*◌, ◌<◌, ◌&&◌, [], ◌∷◌, map, replicate, None, slice_index_or, slice_set};
 ghost use Rattle.line.specs.declared.states.State.TheVariants.{Exclusive};
 ghost use Rattle.directory.specs.Directory.{view_of, directory};
+ghost use Rattle.directory.specs.Sound.{sound};
 ghost use Rattle.calls.specs.Model.{slot, blank_slot, fresh_row, no_counts};
-ghost use Rattle.pool.specs.Acts.{state_after};
+ghost use Rattle.calls.specs.Questions.{none_wait, rows_calm};
+ghost use Rattle.pool.specs.Steps.{state_in};
 
+use crate::line_steps::LineStep;
 use crate::tables::Tables;
 use calls::slots::{Counts, Slot};
 use directory::records::Record;
 use directory::rows::Row;
 use line::lines::Line;
 use messages::assignments::Assignment;
-use messages::kinds::Kind;
-use messages::requests::Request;
+use rules::plan::places::Place;
+use rules::plan::zones::Zone;
 
-// A step of a line.
-#[derive(Clone, Copy)]
-pub enum Act {
-    Request(Request),
-    Receive(Kind),
-    LetGo,
+// Where the line of a zone for a place stands.
+fn slot_index(zone: Zone, place: Place) -> usize
+    ensures value { result ≡ zone * 32 + place }
+    ensures below { result < 256 }
+{
+    usize::from(zone.number()) * 32 + usize::from(place.number())
 }
 
-// Lends the line to its step. What the step answers is known before.
-fn step_line(target: &mut Slot, act: Act, number: u32)
-    ensures { target.new ≡ slot (state_after act target.old.line.state) number }
+// Lends the line to its step, and sets the number of its request. What the step answers is known before.
+fn step_line<S: LineStep>(target: &mut Slot, step: S, number: u32)
+    ensures { target.new ≡ slot (state_in (S.outcome step target.old.line.state)) number }
 {
-    let _ = match act {
-        Act::Request(request) => target.line.request(request),
-        Act::Receive(kind) => target.line.receive(kind),
-        Act::LetGo => target.line.let_go(),
-    };
+    let _ = step.step(&mut target.line);
     target.number = number;
 }
 
@@ -50,6 +49,13 @@ fn fresh_row() -> Row
     Record::fresh().row()
 }
 
+// Whether a row is sound, as each row of the tables is, and no request waits there.
+fn is_calm(row: Row) -> bool
+    ensures { result ≡ (sound (view_of row) && none_wait (view_of row).waiting) }
+{
+    Record::from_row(row).is_some_and(|record| !record.has_waiting())
+}
+
 impl Tables {
     // Every line Invalid, every row fresh, nothing counted.
     pub(crate) fn unloaded() -> Tables
@@ -66,63 +72,67 @@ impl Tables {
     }
 
     // An assignment at a zone in E, listed there.
-    pub(crate) fn load(&mut self, zone: u8, place: u8, assignment: Assignment)
-        requires { (zone < 8) × (place < 32) }
+    pub(crate) fn load(&mut self, zone: Zone, place: Place, assignment: Assignment)
+        ensures in_range { (zone < 8) × (place < 32) }
         ensures slots { self.new.slots ≡ slice_set self.old.slots (zone * 32 + place) (slot (Exclusive assignment) 0) }
         ensures rows { map view_of self.new.rows ≡ slice_set (map view_of self.old.rows) place (directory (zone ∷ []) [] None) }
         ensures counts { self.new.counts ≡ self.old.counts }
     {
-        self.slots[zone as usize * 32 + place as usize] = Slot {
+        self.slots[slot_index(zone, place)] = Slot {
             line: Line::loaded(assignment),
             number: 0,
         };
-        match Record::loaded(zone) {
+        match Record::loaded(zone.number()) {
             Ok(loaded) => self.keep(place, loaded),
             Err(_) => unreachable(),
         }
     }
 
+    // A zone's line for a place, with the number of its last request.
+    pub(crate) fn slot(&self, zone: Zone, place: Place) -> Slot
+        ensures { result ≡ slice_index_or self.now.slots (zone * 32 + place) blank_slot }
+    {
+        self.slots[slot_index(zone, place)]
+    }
+
     // Lends a zone's line to its step, and sets the number of its request.
-    pub(crate) fn step(&mut self, zone: u8, place: u8, act: Act, number: u32)
-        requires { (zone < 8) × (place < 32) }
-        ensures slots { self.new.slots ≡ slice_set self.old.slots (zone * 32 + place) (slot (state_after act (get_or self.old.slots (zone * 32 + place) blank_slot).line.state) number) }
+    pub(crate) fn step<S: LineStep>(&mut self, zone: Zone, place: Place, step: S, number: u32)
+        ensures slots { self.new.slots ≡ slice_set self.old.slots (zone * 32 + place) (slot (state_in (S.outcome step (slice_index_or self.old.slots (zone * 32 + place) blank_slot).line.state)) number) }
         ensures rows { self.new.rows ≡ self.old.rows }
         ensures counts { self.new.counts ≡ self.old.counts }
     {
-        step_line(
-            &mut self.slots[zone as usize * 32 + place as usize],
-            act,
-            number,
-        );
+        step_line(&mut self.slots[slot_index(zone, place)], step, number);
+    }
+
+    pub(crate) fn counts(&self, zone: Zone) -> Counts
+        ensures { result ≡ slice_index_or self.now.counts zone no_counts }
+    {
+        self.counts[usize::from(zone.number())]
     }
 
     // Sets a zone's counts.
-    pub(crate) fn count(&mut self, zone: u8, counts: Counts)
-        requires { zone < 8 }
+    pub(crate) fn count(&mut self, zone: Zone, counts: Counts)
         ensures slots { self.new.slots ≡ self.old.slots }
         ensures rows { self.new.rows ≡ self.old.rows }
         ensures counts { self.new.counts ≡ slice_set self.old.counts zone counts }
     {
-        self.counts[zone as usize] = counts;
+        self.counts[usize::from(zone.number())] = counts;
     }
 
     // The number of the last request of a zone for a place; 0 for a zone above 7, which has none.
-    pub(crate) fn number(&self, zone: u8, place: u8) -> u32
-        requires { place < 32 }
-        ensures { result ≡ (get_or self.now.slots (zone * 32 + place) blank_slot).number }
+    pub(crate) fn number(&self, zone: u8, place: Place) -> u32
+        ensures { result ≡ (slice_index_or self.now.slots (zone * 32 + place) blank_slot).number }
     {
-        match self.slots.get(zone as usize * 32 + place as usize) {
-            Some(kept) => kept.number,
-            None => 0,
-        }
+        self.slots
+            .get(usize::from(zone) * 32 + usize::from(place.number()))
+            .map_or(0, |kept| kept.number)
     }
 
     // The record of a row, after its check.
-    pub(crate) fn record(&self, place: u8) -> Record
-        requires { place < 32 }
+    pub(crate) fn record(&self, place: Place) -> Record
         ensures { view_of result.row ≡ slice_index_or (map view_of self.now.rows) place fresh_row }
     {
-        let row = self.rows[place as usize];
+        let row = self.rows[usize::from(place.number())];
         match Record::from_row(row) {
             Some(record) => record,
             None => unreachable(),
@@ -130,12 +140,18 @@ impl Tables {
     }
 
     // Writes a record back as the row of its place.
-    pub(crate) fn keep(&mut self, place: u8, kept: Record)
-        requires { place < 32 }
+    pub(crate) fn keep(&mut self, place: Place, kept: Record)
         ensures slots { self.new.slots ≡ self.old.slots }
         ensures rows { map view_of self.new.rows ≡ slice_set (map view_of self.old.rows) place (view_of kept.row) }
         ensures counts { self.new.counts ≡ self.old.counts }
     {
-        self.rows[place as usize] = kept.row();
+        self.rows[usize::from(place.number())] = kept.row();
+    }
+
+    // Whether no request waits at the directory.
+    pub(crate) fn rows_are_calm(&self) -> bool
+        ensures { result ≡ rows_calm (map view_of self.now.rows) }
+    {
+        self.rows.iter().all(|row| is_calm(*row))
     }
 }

@@ -1,18 +1,11 @@
-use Rattle.std.proofs.Common.{◌≡◌, length, arith, rules}
-use Rattle.pool.proofs.Sendings.{any_here, any_later, any_none}
+use Rattle.std.proofs.Common.{is_some, ◌∙◌, rules}
+use Rattle.std.proofs.lemmas.Iterator.{YieldsList-from_slice}
+use Rattle.std.proofs.lemmas.Iterator.Search.{any_from_yields_List}
+use borrow.Author.Tests.{tests}
+use Rattle.pool.proofs.Sendings.{any_sends}
 use Rattle.pool.proofs.row_changes.sends_any.Goals as goal
-
-pub returns-then-is_some : goal.returns-then-is_some
-returns-then-is_some c =
-    let long : length c.args.outgoing.to ≡ 8 = search rules in
-    any_here c.args.outgoing.to c.loop-zone.zone c.loop-zone.invariant (omega arith) c.is_some.result c.is_some.ensures c.if-is_some.true
-
-pub loop-zone-preserved : goal.loop-zone-preserved
-loop-zone-preserved c =
-    let long : length c.args.outgoing.to ≡ 8 = search rules in
-    any_later c.args.outgoing.to c.loop-zone.zone c.loop-zone.invariant (omega arith) c.is_some.result c.is_some.ensures c.if-is_some.false
 
 pub returns : goal.returns
 returns c =
-    let long : length c.args.outgoing.to ≡ 8 = search rules in
-    any_none c.args.outgoing.to c.loop-zone.zone c.loop-zone.invariant (omega arith)
+    any_from_yields_List is_some _ _ c.any.result c.any.ensures.ran (YieldsList-from_slice c.args.outgoing.to cc) (λ x b q k. search (rules, tests))
+    ∙ any_sends c.args.outgoing.to

@@ -6,11 +6,11 @@ use Rattle.calls.specs.Runs.{results, after_run}
 use Rattle.pool.specs.Pools.{model_of}
 use Rattle.pool.specs.Stocks.{LoadOutcome}
 use Rattle.pool.proofs.Wholes.{ran, refused_stock, from_fresh}
-use Rattle.pool.proofs.running.run.Goals as goal
+use Rattle.pool.proofs.running.run_into.Goals as goal
 
 pub returns-in_err-load_all : goal.returns-in_err-load_all
 returns-in_err-load_all g c =
-    let p = err_from_is_err_and c.from_residual-in_err-load_all.result c.from_residual-in_err-load_all.ensures.1 in
+    let p = err_from_is_err_and c.from_residual.result c.from_residual.ensures.1 in
     let size = ap length c.new-register.ensures.row in
     let begun = from_fresh g.K.Key.meaning c.args.stock.now _ _ _ _ _ _ size c.new-loading.ensures.tables c.new-register.ensures.keys in
     rw (p.1, p.2) (refused_stock g.T.Transport.room g.K.Key.meaning c.args.plan (length c.args.row.now) c.args.stock.now c.args.calls.now _ _ _ (c.in_err-load_all.ensures.outcome ∙ begun))
