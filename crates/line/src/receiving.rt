@@ -39,7 +39,7 @@ impl Line {
                 self.state = State::Invalid;
                 Up::Purged
             }
-            // Three arms: of a copy lent out of one pattern with `|` it does not prove which request the line keeps beside it.
+            // Three arms: where `|` joins them, the check loses that the line keeps its request beside the copy that is lent out.
             State::WaitingExclusion(_, copy) => give(copy, ask)?,
             State::WaitingExclusionIfAny(_, copy) => give(copy, ask)?,
             State::WaitingPurge(_, copy) => give(copy, ask)?,
