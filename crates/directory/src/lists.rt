@@ -12,6 +12,7 @@ pub struct ShortList<T> {
     ghost fits: { used ≤ 8 },
 }
 
+// Written out, since no derive takes a struct with a ghost field.
 impl<T: Copy> Clone for ShortList<T> {
     ghost is_clone = { λ list copy. copy ≡ list };
 

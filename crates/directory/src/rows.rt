@@ -27,8 +27,8 @@ pub struct Waiting {
 pub struct Served {
     pub(crate) zone: u8,
     demand: Demand,
-    // at the take-up: whether the zone was listed, and who was the owner.
-    // A number and no Option: of an empty list it is 0, and it is only ever compared with a zone that is listed.
+    // at the take-up: whether the zone was listed, and who was the owner. A number and no Option, since it is only
+    // ever compared with listed zones; where nobody is listed it is 0
     was_listed: bool,
     owner: u8,
     // what has come: data, and the owner's purged message

@@ -34,6 +34,13 @@ impl ShortList<u8> {
 }
 
 impl ShortList<Waiting> {
+    // Whether a request of the zone waits.
+    pub(crate) fn has_request_of(self, zone: u8) -> bool
+        ensures { result ≡ listed (requesters (items_of self)) zone }
+    {
+        self.as_slice().iter().any(|waiting| waiting.zone == zone)
+    }
+
     // The zones of the waiting requests.
     pub(crate) fn zones(self) -> ShortList<u8>
         ensures { items_of result ≡ requesters (items_of self) }

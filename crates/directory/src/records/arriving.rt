@@ -16,7 +16,7 @@ impl Record {
         ensures { result ≡ listed (busy (view_of self.row)) zone }
     {
         self.row.served.is_some_and(|served| served.zone == zone)
-            || self.row.waiting.zones().contains(zone)
+            || self.row.waiting.has_request_of(zone)
     }
 
     fn demand_arrives(&mut self, zone: u8, demand: Demand) -> Result<Effect, Refusal>

@@ -22,13 +22,12 @@ impl Row {
     pub(crate) fn is_sound(self) -> bool
         ensures { result ≡ sound (view_of self) }
     {
-        let waiting = self.waiting.zones();
         is_proper(self.list.as_slice())
-            && is_proper(waiting.as_slice())
+            && is_proper(self.waiting.zones().as_slice())
             && self.served.is_none_or(|served| {
                 let is_reader = matches!(served.demand, Demand::GetSharedData);
                 served.zone < 8
-                    && !waiting.contains(served.zone)
+                    && !self.waiting.has_request_of(served.zone)
                     && !(is_reader && self.list.contains(served.zone))
             })
     }

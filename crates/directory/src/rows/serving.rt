@@ -129,16 +129,11 @@ impl Served {
     {
         match (self.demand, reply) {
             (Demand::GetSharedData, Reply::DataFound(_)) => list.push_front(self.zone),
-            (Demand::GetExclusiveDataIfAny | Demand::ExcludeIfAny, Reply::NoDataFound) => {
-                ShortList::empty(0)
-            }
+            (Demand::GetExclusiveData | Demand::Exclude | Demand::PurgeAndExclude, _) =>
+                ShortList::alone(self.zone),
             (
-                Demand::GetExclusiveData
-                | Demand::GetExclusiveDataIfAny
-                | Demand::Exclude
-                | Demand::ExcludeIfAny
-                | Demand::PurgeAndExclude,
-                _,
+                Demand::GetExclusiveDataIfAny | Demand::ExcludeIfAny,
+                Reply::DataFound(_) | Reply::ExclusionMade,
             ) => ShortList::alone(self.zone),
             _ => ShortList::empty(0),
         }
