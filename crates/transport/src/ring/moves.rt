@@ -36,12 +36,7 @@ impl<const DEPTH: usize> Ring<DEPTH> {
         ensures value { result ≡ around DEPTH (self.now.head + k) }
         ensures within { result < DEPTH }
     {
-        let to_end = DEPTH - self.head;
-        if k < to_end {
-            self.head + k
-        } else {
-            k - to_end
-        }
+        (self.head + k) % DEPTH
     }
 
     pub(crate) fn push(&mut self, message: Message)
