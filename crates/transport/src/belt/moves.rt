@@ -74,6 +74,7 @@ impl Belt {
     }
 
     // Later messages move up by one.
+    #[tactic(auto, using(crate::proofs::BeltLists::one_less, crate::proofs::BeltLists::length_held))]
     fn remove(&mut self, at: usize)
         requires { at < length (held self.old) }
         ensures { held self.new ≡ remove (held self.old) at }
