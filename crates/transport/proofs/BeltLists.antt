@@ -63,6 +63,9 @@ pub lane_is : (es : List Entry) (i : ℕ) → i < 16 → lane_at (lanes_of es) i
 unfolding lanes_of
 lane_is es i l = get_or-map-range_with_len (lane_of es) 0 16 i i [] l (omega arith)
 
+pub count_is : (es : List Entry) (i : ℕ) → i < 16 → length (filter (of_lane i) es) ≡ length (lane_at (lanes_of es) i)
+count_is es i small = sym (length-map (filter (of_lane i) es) (λ (x : Entry). x.message)) ∙ sym (ap length (lane_is es i small))
+
 -- lists that differ in one lane
 pub changed_one : (es fs : List Entry) (i : ℕ) → i < 16 → ((k : ℕ) → (k ≢ i) → lane_of fs k ≡ lane_of es k) → lanes_of fs ≡ set (lanes_of es) i (lane_of fs i)
 unfolding lanes_of

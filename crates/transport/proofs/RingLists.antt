@@ -1,11 +1,12 @@
 -- A ring's list under a push and a pop, one message of it, and what the room of all rings comes to, at every depth.
-use Rattle.std.proofs.Common.{◌≡◌, ℕ, zero, suc, ◌+◌, ◌-◌, ◌<◌, ◌≤◌, ◌≢◌, Bool, true, false, not, ◌&&◌, leb, List, [], ◌∷◌, ◌++◌, map, length, get_or, drop, set, Some, None, sym, refl, ap, ◌∙◌, ⊎_elim, arith}
+use Rattle.std.proofs.Common.{◌≡◌, ℕ, zero, suc, ◌+◌, ◌-◌, ◌*◌, ◌%◌, ◌<◌, ◌≤◌, ltb, ◌≢◌, Bool, true, false, not, ◌&&◌, leb, List, [], ◌∷◌, ◌++◌, map, length, get_or, drop, set, Some, None, sym, refl, ap, ◌∙◌, ⊎_elim, arith}
 use Rattle.std.specs.List.{range_with_len, zip, list_any}
 use Rattle.std.proofs.lemmas.List.{same_lists, get_or-set_same, get_or-set_other, get_or-map, get_or_default, length-map, drop_more, drop_all}
 use Rattle.std.proofs.lemmas.List.Folds.{list_any_at, list_any_none}
 use Rattle.std.proofs.lemmas.List.FromFn.{length-map-range_with_len, get_or-map-range_with_len, map-range_with_len_more}
 use Rattle.std.proofs.lemmas.Slice.Zip.{get_or-zip, length-zip}
-use Rattle.std.proofs.lemmas.Bool.{cases_lt, false≢true, le-leb, lt-leb}
+use Rattle.std.proofs.lemmas.Bool.{cases_lt, cond-true, cond-false, false≢true, le-leb, le-ltb, lt-leb, lt-ltb}
+use Rattle.std.proofs.lemmas.Nat.{mod-mul-add}
 use Rattle.std.proofs.lemmas.Bool.Decides.{nat_tests, same_from_decides}
 use Rattle.messages.specs.declared.kinds.Message.{Message}
 use Rattle.transport.specs.declared.ring.Ring.{Ring}
@@ -148,3 +149,14 @@ pub none_full : {depth : ℕ} (rings : List (Ring depth)) (marks : Marks) → le
 unfolding pairs
 none_full [] marks rings_all marks_all = absurd (omega arith)
 none_full (ring ∷ rings) marks rings_all marks_all = none_full_at (ring ∷ rings) marks ring rings_all marks_all
+
+-- going around once is the remainder by the depth
+pub around_is : (depth n : ℕ) → n < depth + depth → n % depth ≡ around depth n
+around_is depth n twice = ⊎_elim
+    (λ (few : n < depth).
+        let e : n ≡ 0 * depth + n = omega arith in
+        ap (λ (x : ℕ). x % depth) e ∙ mod-mul-add 0 depth n few ∙ sym (cond-true (ltb n depth) n (n - depth) (lt-ltb n depth few)))
+    (λ (many : depth ≤ n).
+        let e : n ≡ 1 * depth + (n - depth) = omega arith in
+        ap (λ (x : ℕ). x % depth) e ∙ mod-mul-add 1 depth (n - depth) (omega arith) ∙ sym (cond-false (ltb n depth) n (n - depth) (le-ltb n depth many)))
+    (cases_lt n depth)

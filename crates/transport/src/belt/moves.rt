@@ -17,6 +17,7 @@ use messages::kinds::Message;
 
 impl Belt {
     // All lanes empty.
+    #[tactic(auto, unfolding(crate::specs::Belt::lanes_of))]
     pub fn new() -> Belt
         ensures { belt_lists result ≡ all_empty }
     {
@@ -73,6 +74,7 @@ impl Belt {
     }
 
     // Later messages move up by one.
+    #[tactic(auto, using(crate::proofs::BeltLists::one_less, crate::proofs::BeltLists::length_held))]
     fn remove(&mut self, at: usize)
         requires { at < length (held self.old) }
         ensures { held self.new ≡ remove (held self.old) at }
@@ -116,6 +118,7 @@ impl Transport for Belt {
         Some(message)
     }
 
+    #[tactic(auto, using(crate::proofs::BeltLists::count_is))]
     fn count(&self, lane: Lane) -> usize {
         match lane.number() {
             Some(i) => self.count_of(i),
@@ -123,15 +126,18 @@ impl Transport for Belt {
         }
     }
 
+    #[tactic(auto, using(crate::proofs::BeltLists::lane_is))]
     fn look_at(&self, lane: Lane, ahead: usize) -> Option<Message> {
         let i = lane.number()?;
         self.behind(i, ahead)
     }
 
+    #[tactic(auto, using(crate::proofs::BeltLists::waiting_held), unfolding(crate::specs::Room::belt_room))]
     fn has_room(&self, set: LaneSet) -> bool {
         self.len + set.size() <= BELT_SIZE
     }
 
+    #[tactic(auto, unfolding(crate::specs::Belt::lanes_of))]
     fn clear(&mut self) {
         self.len = 0;
     }

@@ -13,6 +13,7 @@ pub(crate) const BLANK: Message = Message {
 };
 
 impl<const DEPTH: usize> Ring<DEPTH> {
+    #[tactic(auto, using(crate::proofs::RingLists::ring_none))]
     pub(crate) fn empty() -> Ring<DEPTH>
         requires { 0 < DEPTH }
         ensures { ring_items result ≡ [] }
@@ -24,6 +25,7 @@ impl<const DEPTH: usize> Ring<DEPTH> {
         }
     }
 
+    #[tactic(auto, using(crate::proofs::RingLists::length_ring))]
     pub(crate) fn is_full(&self) -> bool
         ensures { result ≡ nat_le DEPTH (length (ring_items self.now)) }
     {
@@ -31,19 +33,16 @@ impl<const DEPTH: usize> Ring<DEPTH> {
     }
 
     // The slot `k` places after the head, going around.
+    #[tactic(auto, using(crate::proofs::RingLists::around_is))]
     fn slot(&self, k: usize) -> usize
         requires { k ≤ DEPTH }
         ensures value { result ≡ around DEPTH (self.now.head + k) }
         ensures within { result < DEPTH }
     {
-        let to_end = DEPTH - self.head;
-        if k < to_end {
-            self.head + k
-        } else {
-            k - to_end
-        }
+        (self.head + k) % DEPTH
     }
 
+    #[tactic(auto, using(crate::proofs::RingLists::length_ring, crate::proofs::RingLists::ring_pushed))]
     pub(crate) fn push(&mut self, message: Message)
         requires { length (ring_items self.old) < DEPTH }
         ensures { ring_items self.new ≡ ring_items self.old ++ message ∷ [] }
@@ -52,6 +51,7 @@ impl<const DEPTH: usize> Ring<DEPTH> {
         self.len += 1;
     }
 
+    #[tactic(auto, using(crate::proofs::RingLists::length_ring))]
     pub(crate) fn count(&self) -> usize
         ensures { result ≡ length (ring_items self.now) }
     {
@@ -59,6 +59,7 @@ impl<const DEPTH: usize> Ring<DEPTH> {
     }
 
     // The message that has `ahead` older ones before it.
+    #[tactic(auto, using(crate::proofs::RingLists::ring_at, crate::proofs::RingLists::ring_past))]
     pub(crate) fn get(&self, ahead: usize) -> Option<Message>
         ensures { result ≡ oldest_of (drop ahead (ring_items self.now)) }
     {
@@ -69,6 +70,7 @@ impl<const DEPTH: usize> Ring<DEPTH> {
         }
     }
 
+    #[tactic(auto, using(crate::proofs::RingLists::none_oldest, crate::proofs::RingLists::ring_waits, crate::proofs::RingLists::ring_popped))]
     pub(crate) fn pop(&mut self) -> Option<Message>
         ensures answer { result ≡ oldest_of (ring_items self.old) }
         ensures rest { ring_items self.new ≡ drop 1 (ring_items self.old) }

@@ -59,11 +59,13 @@ impl<const DEPTH: usize> Transport for RingBank<DEPTH> {
         Ok(())
     }
 
+    #[tactic(auto, using(crate::specs::RingRoom::lane_popped))]
     fn take(&mut self, lane: Lane) -> Option<Message> {
         let i = lane.number()?;
         self.rings[i].pop()
     }
 
+    #[tactic(auto, using(crate::specs::RingRoom::lane_read))]
     fn count(&self, lane: Lane) -> usize {
         match lane.number() {
             Some(i) => self.rings[i].count(),
