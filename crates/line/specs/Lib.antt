@@ -3,3 +3,4 @@ pub mod Requested
 pub mod Received
 pub mod LetGo
 pub mod Questions
+pub mod Texts

@@ -3,6 +3,7 @@
 
 mod letting_go;
 pub mod lines;
+mod printing;
 mod receiving;
 mod requesting;
 pub mod states;

@@ -3,3 +3,4 @@ pub mod Assignments
 pub mod Answers
 pub mod Central
 pub mod Kinds
+pub mod Texts

@@ -4,5 +4,6 @@
 pub mod assignments;
 pub mod central;
 pub mod kinds;
+mod printing;
 pub mod refusals;
 pub mod requests;
