@@ -2,17 +2,16 @@
 ghost use Rattle.std.specs.Prelude.{◌≡◌};
 ghost use Rattle.messages.specs.Refusals.{refusal_number};
 ghost use Rattle.calls.specs.declared.faults.Fault.TheVariants as fault;
-ghost use Rattle.calls.specs.Faults.{facts_of, about_zone, about_place, about_nothing};
+ghost use Rattle.calls.specs.Faults.{refusal_of, facts_of, about_zone, about_place, about_nothing};
 
 use messages::refusals::{Layer, Refusal};
-use transport::faults::TransportFault;
+use transport::faults::{Subject, TransportFault};
 
-// A refusal of the pool itself: the call's zone, or without one the key's place, if any.
+// A refusal of the pool itself, and what it names: a call without a zone whose key has no place names nothing.
 #[derive(Clone, Copy, PartialEq, Eq, Debug)]
 pub struct PoolFault {
     refusal: Refusal,
-    zone: Option<u8>,
-    place: Option<u8>,
+    subject: Option<Subject>,
 }
 
 // Why a call was refused: by the pool itself, or by its transport.
@@ -37,8 +36,7 @@ impl Fault {
     {
         Fault::Pool(PoolFault {
             refusal,
-            zone: Some(zone),
-            place: None,
+            subject: Some(Subject::Zone(zone)),
         })
     }
 
@@ -48,8 +46,7 @@ impl Fault {
     {
         Fault::Pool(PoolFault {
             refusal,
-            zone: None,
-            place: Some(place),
+            subject: Some(Subject::Place(place)),
         })
     }
 
@@ -59,18 +56,24 @@ impl Fault {
     {
         Fault::Pool(PoolFault {
             refusal,
-            zone: None,
-            place: None,
+            subject: None,
         })
+    }
+
+    // Why the call was refused.
+    pub fn refusal(self) -> Refusal
+        ensures { result ≡ refusal_of self }
+    {
+        match self {
+            Fault::Pool(f) => f.refusal,
+            Fault::Transport(f) => f.refusal(),
+        }
     }
 
     pub fn number(self) -> u8
         ensures { result ≡ (facts_of self).number }
     {
-        match self {
-            Fault::Pool(f) => f.refusal.number(),
-            Fault::Transport(f) => f.number(),
-        }
+        self.refusal().number()
     }
 
     pub fn layer(self) -> Layer
@@ -87,7 +90,7 @@ impl Fault {
         ensures { result ≡ (facts_of self).zone }
     {
         match self {
-            Fault::Pool(f) => f.zone,
+            Fault::Pool(f) => f.subject.and_then(Subject::zone),
             Fault::Transport(f) => f.zone(),
         }
     }
@@ -97,7 +100,7 @@ impl Fault {
         ensures { result ≡ (facts_of self).place }
     {
         match self {
-            Fault::Pool(f) => f.place,
+            Fault::Pool(f) => f.subject.and_then(Subject::place),
             Fault::Transport(f) => f.place(),
         }
     }

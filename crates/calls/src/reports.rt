@@ -8,7 +8,8 @@ pub struct Answered {
 }
 
 // What a call that is not refused reports: the number that a start was given, the request settled, and the request answered.
-#[derive(Clone, Copy, PartialEq, Eq, Debug)]
+// By default nothing.
+#[derive(Clone, Copy, PartialEq, Eq, Default, Debug)]
 pub struct Report {
     pub number: Option<u32>,
     pub settled: Option<u32>,

@@ -2,7 +2,7 @@
 ghost use Rattle.std.specs.Prelude.{◌≡◌};
 ghost use Rattle.messages.specs.declared.refusals.Layer.{Layer};
 ghost use Rattle.transport.specs.declared.faults.Subject.TheVariants.{Zone};
-ghost use Rattle.transport.specs.Faults.{refused, transport_facts};
+ghost use Rattle.transport.specs.Faults.{named_zone, named_place, refused, refusal_of, transport_facts};
 
 use messages::refusals::{Layer, Refusal};
 
@@ -11,6 +11,26 @@ use messages::refusals::{Layer, Refusal};
 pub enum Subject {
     Zone(u8),
     Place(u8),
+}
+
+impl Subject {
+    pub fn zone(self) -> Option<u8>
+        ensures { result ≡ named_zone self }
+    {
+        match self {
+            Subject::Zone(zone) => Some(zone),
+            Subject::Place(_) => None,
+        }
+    }
+
+    pub fn place(self) -> Option<u8>
+        ensures { result ≡ named_place self }
+    {
+        match self {
+            Subject::Zone(_) => None,
+            Subject::Place(place) => Some(place),
+        }
+    }
 }
 
 // Why a transport refused. A layer above carries it whole.
@@ -39,6 +59,12 @@ impl TransportFault {
         }
     }
 
+    pub fn refusal(self) -> Refusal
+        ensures { result ≡ refusal_of self }
+    {
+        self.refusal
+    }
+
     pub fn number(self) -> u8
         ensures { result ≡ (transport_facts self).number }
     {
@@ -54,18 +80,12 @@ impl TransportFault {
     pub fn zone(self) -> Option<u8>
         ensures { result ≡ (transport_facts self).zone }
     {
-        match self.subject {
-            Subject::Zone(zone) => Some(zone),
-            Subject::Place(_) => None,
-        }
+        self.subject.zone()
     }
 
     pub fn place(self) -> Option<u8>
         ensures { result ≡ (transport_facts self).place }
     {
-        match self.subject {
-            Subject::Zone(_) => None,
-            Subject::Place(place) => Some(place),
-        }
+        self.subject.place()
     }
 }
