@@ -55,7 +55,10 @@ fn take_up_while_served_and_with_nothing_waiting(rt: HostRuntime) -> Result<(), 
 fn directory_has_no_place_for_a_message(rt: HostRuntime) -> Result<(), Fail> {
     let mut record = Record::loaded(0)?;
     assert_eq!(rt; refused(Record::loaded(8)), Some(17));
-    assert_eq!(rt; refused(record.deliver(8, demand(Demand::PurgeAll))), Some(17));
+    assert_eq!(rt;
+        refused(record.deliver(8, demand(Demand::PurgeAll))),
+        Some(17)
+    );
     assert_eq!(rt; refused(record.deliver(1, Kind::Up(Up::Report))), Some(17));
     assert_eq!(rt; refused(record.deliver(0, Kind::Up(Up::Purged))), Some(17));
     assert_eq!(rt;

@@ -69,8 +69,13 @@ impl<T: Transport> Bench<'_, T> {
         zone: u8,
         number: u64,
     ) -> Result<Report, Fault> {
-        self.pool
-            .start(&mut self.register, board, zone, key(number), Request::CarbonCopy)
+        self.pool.start(
+            &mut self.register,
+            board,
+            zone,
+            key(number),
+            Request::CarbonCopy,
+        )
     }
 
     pub(crate) fn take_up(&mut self, number: u64) -> Result<Report, Fault> {

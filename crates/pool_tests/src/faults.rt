@@ -6,7 +6,7 @@ use std::test::Fail;
 
 // What a refusal tells: its number, its layer, and the zone and the place that it names.
 #[derive(Clone, Copy, PartialEq, Eq, Debug)]
-struct Told {
+struct Facts {
     number: u8,
     layer: Layer,
     zone: Option<u8>,
@@ -14,9 +14,9 @@ struct Told {
 }
 
 // None where nothing was refused.
-fn told(res: Result<Report, Fault>) -> Option<Told> {
+fn told(res: Result<Report, Fault>) -> Option<Facts> {
     let fault = res.err()?;
-    Some(Told {
+    Some(Facts {
         number: fault.number(),
         layer: fault.layer(),
         zone: fault.zone(),
@@ -28,14 +28,14 @@ fn told(res: Result<Report, Fault>) -> Option<Told> {
 fn faults_of_the_pool(rt: HostRuntime) -> Result<(), Fail> {
     let mut row = [key(0); 2];
     let mut bench = Bench::loaded(&mut row, 1)?;
-    let no_zone = Told {
+    let no_zone = Facts {
         number: 6,
         layer: Layer::Pool,
         zone: Some(4),
         place: None,
     };
     assert_eq!(rt; told(bench.ask(4, 0)), Some(no_zone));
-    let unknown_key = Told {
+    let unknown_key = Facts {
         number: 13,
         layer: Layer::Pool,
         zone: None,
@@ -43,7 +43,7 @@ fn faults_of_the_pool(rt: HostRuntime) -> Result<(), Fail> {
     };
     assert_eq!(rt; told(bench.take_up(9)), Some(unknown_key));
     bench.ask_the_owner();
-    let served = Told {
+    let served = Facts {
         number: 15,
         layer: Layer::Pool,
         zone: None,
@@ -58,7 +58,7 @@ fn fault_of_a_full_up_lane(rt: HostRuntime) -> Result<(), Fail> {
     let mut row = [key(0); 32];
     let mut bench = Bench::loaded(&mut row, 1)?;
     bench.fill_up_lane(2);
-    let full = Told {
+    let full = Facts {
         number: 11,
         layer: Layer::Transport,
         zone: Some(2),
@@ -76,7 +76,7 @@ fn fault_of_a_full_down_lane(rt: HostRuntime) -> Result<(), Fail> {
     bench.fill_down_lane(2);
     assert_eq!(rt; refused(bench.ask(2, 1)), None);
     assert_eq!(rt; refused(bench.pool.deliver_up(2)), None);
-    let full = Told {
+    let full = Facts {
         number: 11,
         layer: Layer::Transport,
         zone: None,
