@@ -1,4 +1,5 @@
 pub mod Faults
+pub mod Mapped
 pub mod Model
 pub mod Sending
 pub mod Zones

@@ -1,3 +1,5 @@
+ghost use Rattle.calls.specs.Mapped.{KeyMapped};
+
 use messages::requests::Request;
 use rules::board::PauseBoard;
 
@@ -23,4 +25,30 @@ pub enum Call<K> {
         zone: u8,
         key: K,
     },
+}
+
+impl<K> Call<K> {
+    // The call with its key mapped, and all else as it is.
+    pub fn map_key<L, F: FnOnce(K) -> L + Drop>(self, f: F) -> Call<L>
+        requires { F.IsAlwaysCallable f }
+        ensures { KeyMapped (F.post f) self result }
+    {
+        match self {
+            Call::Start {
+                zone,
+                key,
+                request,
+                board,
+            } => Call::Start {
+                zone,
+                key: f(key),
+                request,
+                board,
+            },
+            Call::DeliverUp { zone } => Call::DeliverUp { zone },
+            Call::DeliverDown { zone } => Call::DeliverDown { zone },
+            Call::TakeUp { key } => Call::TakeUp { key: f(key) },
+            Call::LetGo { zone, key } => Call::LetGo { zone, key: f(key) },
+        }
+    }
 }
