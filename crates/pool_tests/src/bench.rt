@@ -1,5 +1,4 @@
-// What the tests share: a four-zone pool over rings, with one key loaded at zone 0.
-use calls::call::Call;
+// What the tests share: a four-zone pool with its register, mostly over rings and with key 0 loaded at zone 0.
 use calls::faults::Fault;
 use calls::reports::Report;
 use calls::stock::Stock;
@@ -15,16 +14,19 @@ use std::test::Fail;
 use transport::interface::Transport;
 use transport::rings::Rings;
 
+#[derive(Drop)]
+pub(crate) struct Bench<'a, T> {
+    pub(crate) pool: Opened<T>,
+    pub(crate) register: Register<'a, GroupNumber>,
+}
+
 pub(crate) fn key(number: u64) -> GroupNumber {
     GroupNumber::new(number)
 }
 
-// The number of a refusal; 0 where nothing was refused.
-pub(crate) fn number(res: Result<Report, Fault>) -> u8 {
-    match res {
-        Ok(_) => 0,
-        Err(fault) => fault.number(),
-    }
+// The number of a refusal; none where nothing was refused.
+pub(crate) fn refused<T: Drop>(res: Result<T, Fault>) -> Option<u8> {
+    res.err().map(Fault::number)
 }
 
 pub(crate) fn loading(first_number: u32) -> Result<Loading<Rings>, Fail> {
@@ -41,54 +43,69 @@ pub(crate) fn stock(zone: u8, number: u64) -> Result<Stock<GroupNumber>, Fail> {
     })
 }
 
-// Key 0 is loaded at zone 0.
-pub(crate) fn opened(
-    register: &mut Register<'_, GroupNumber>,
-    first_number: u32,
-) -> Result<Opened<Rings>, Fail> {
-    let mut pool = loading(first_number)?;
-    pool.load(register, stock(0, 0)?)?;
-    Ok(pool.open())
-}
-
-// A zone asks for a copy of a key.
-pub(crate) fn ask<T: Transport>(
-    pool: &mut Opened<T>,
-    register: &mut Register<'_, GroupNumber>,
-    zone: u8,
-    number: u64,
-) -> Result<Report, Fault> {
-    let board = PauseBoard::new();
-    pool.start(register, &board, zone, key(number), Request::CarbonCopy)
-}
-
-// Sixteen demands of a zone, for keys that nobody has, fill its up lane over rings.
-pub(crate) fn fill_up_lane<T: Transport>(
-    pool: &mut Opened<T>,
-    register: &mut Register<'_, GroupNumber>,
-    zone: u8,
-) {
-    for number in 100..116u64 {
-        let _ = ask(pool, register, zone, number);
+impl<'a> Bench<'a, Rings> {
+    // Key 0 is loaded at zone 0.
+    pub(crate) fn loaded(row: &'a mut [GroupNumber], first_number: u32) -> Result<Self, Fail> {
+        let mut register = Register::new(row);
+        let mut pool = loading(first_number)?;
+        pool.load(&mut register, stock(0, 0)?)?;
+        Ok(Bench {
+            pool: pool.open(),
+            register,
+        })
     }
 }
 
-// Sixteen replies to a zone fill its down lane.
-pub(crate) fn fill_down_lane(
-    pool: &mut Opened<Rings>,
-    register: &mut Register<'_, GroupNumber>,
-    zone: u8,
-) {
-    for number in 200..216u64 {
-        let _ = ask(pool, register, zone, number);
-        let _ = pool.deliver_up(zone);
-        let _ = pool.take_up(register, key(number));
+impl<T: Transport> Bench<'_, T> {
+    // A zone asks for a copy of a key.
+    pub(crate) fn ask(&mut self, zone: u8, number: u64) -> Result<Report, Fault> {
+        self.ask_under(&PauseBoard::new(), zone, number)
     }
-}
 
-// Zone 1 demands a copy of key 0, and the directory asks zone 0 for it.
-pub(crate) fn ask_the_owner(pool: &mut Opened<Rings>, register: &mut Register<'_, GroupNumber>) {
-    let _ = ask(pool, register, 1, 0);
-    let _ = pool.deliver_up(1);
-    let _ = pool.take_up(register, key(0));
+    // The same while zones are paused.
+    pub(crate) fn ask_under(
+        &mut self,
+        board: &PauseBoard,
+        zone: u8,
+        number: u64,
+    ) -> Result<Report, Fault> {
+        self.pool.start(
+            &mut self.register,
+            board,
+            zone,
+            key(number),
+            Request::CarbonCopy,
+        )
+    }
+
+    pub(crate) fn take_up(&mut self, number: u64) -> Result<Report, Fault> {
+        self.pool.take_up(&self.register, key(number))
+    }
+
+    pub(crate) fn let_go(&mut self, zone: u8, number: u64) -> Result<Report, Fault> {
+        self.pool.let_go(&self.register, zone, key(number))
+    }
+
+    // Sixteen demands of a zone, for keys that nobody has, fill its up lane over rings.
+    pub(crate) fn fill_up_lane(&mut self, zone: u8) {
+        for number in 100..116u64 {
+            let _ = self.ask(zone, number);
+        }
+    }
+
+    // Sixteen replies to a zone fill its down lane.
+    pub(crate) fn fill_down_lane(&mut self, zone: u8) {
+        for number in 200..216u64 {
+            let _ = self.ask(zone, number);
+            let _ = self.pool.deliver_up(zone);
+            let _ = self.take_up(number);
+        }
+    }
+
+    // Zone 1 demands a copy of key 0, and the directory asks zone 0 for it.
+    pub(crate) fn ask_the_owner(&mut self) {
+        let _ = self.ask(1, 0);
+        let _ = self.pool.deliver_up(1);
+        let _ = self.take_up(0);
+    }
 }

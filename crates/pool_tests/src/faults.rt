@@ -1,99 +1,87 @@
-use crate::bench::{ask, ask_the_owner, fill_down_lane, fill_up_lane, key, number, opened};
+use crate::bench::{Bench, key, refused};
 use calls::faults::Fault;
 use calls::reports::Report;
-use keys::kinds::GroupNumber;
-use keys::register::Register;
 use messages::refusals::Layer;
-use std::process::Abort;
 use std::test::Fail;
 
-// Checks what a refusal tells: its number, its layer, and the zone and the place that it names.
-fn tells(
-    rt: &impl Abort,
-    res: Result<Report, Fault>,
+// What a refusal tells: its number, its layer, and the zone and the place that it names.
+#[derive(Clone, Copy, PartialEq, Eq, Debug)]
+struct Facts {
     number: u8,
     layer: Layer,
     zone: Option<u8>,
     place: Option<u8>,
-) -> Result<(), Fail> {
-    match res {
-        Ok(_) => {
-            assert!(rt; false);
-            Ok(())
-        },
-        Err(fault) => {
-            assert_eq!(rt; fault.number(), number);
-            assert_eq!(rt; fault.layer(), layer);
-            assert_eq!(rt; fault.zone(), zone);
-            assert_eq!(rt; fault.place(), place);
-            Ok(())
-        }
-    }
+}
+
+// None where nothing was refused.
+fn told(res: Result<Report, Fault>) -> Option<Facts> {
+    let fault = res.err()?;
+    Some(Facts {
+        number: fault.number(),
+        layer: fault.layer(),
+        zone: fault.zone(),
+        place: fault.place(),
+    })
 }
 
 #[test]
 fn faults_of_the_pool(rt: HostRuntime) -> Result<(), Fail> {
-    let mut row = [GroupNumber::new(0); 2];
-    let mut register = Register::new(&mut row);
-    let mut pool = opened(&mut register, 1)?;
-    tells(
-        &rt,
-        ask(&mut pool, &mut register, 4, 0),
-        6,
-        Layer::Pool,
-        Some(4),
-        None,
-    )?;
-    tells(
-        &rt,
-        pool.take_up(&register, key(9)),
-        13,
-        Layer::Pool,
-        None,
-        None,
-    )?;
-    ask_the_owner(&mut pool, &mut register);
-    tells(
-        &rt,
-        pool.take_up(&register, key(0)),
-        15,
-        Layer::Pool,
-        None,
-        Some(0),
-    )
+    let mut row = [key(0); 2];
+    let mut bench = Bench::loaded(&mut row, 1)?;
+    let no_zone = Facts {
+        number: 6,
+        layer: Layer::Pool,
+        zone: Some(4),
+        place: None,
+    };
+    assert_eq!(rt; told(bench.ask(4, 0)), Some(no_zone));
+    let unknown_key = Facts {
+        number: 13,
+        layer: Layer::Pool,
+        zone: None,
+        place: None,
+    };
+    assert_eq!(rt; told(bench.take_up(9)), Some(unknown_key));
+    bench.ask_the_owner();
+    let served = Facts {
+        number: 15,
+        layer: Layer::Pool,
+        zone: None,
+        place: Some(0),
+    };
+    assert_eq!(rt; told(bench.take_up(0)), Some(served));
+    Ok(())
 }
 
 #[test]
 fn fault_of_a_full_up_lane(rt: HostRuntime) -> Result<(), Fail> {
-    let mut row = [GroupNumber::new(0); 32];
-    let mut register = Register::new(&mut row);
-    let mut pool = opened(&mut register, 1)?;
-    fill_up_lane(&mut pool, &mut register, 2);
-    tells(
-        &rt,
-        ask(&mut pool, &mut register, 2, 1),
-        11,
-        Layer::Transport,
-        Some(2),
-        None,
-    )
+    let mut row = [key(0); 32];
+    let mut bench = Bench::loaded(&mut row, 1)?;
+    bench.fill_up_lane(2);
+    let full = Facts {
+        number: 11,
+        layer: Layer::Transport,
+        zone: Some(2),
+        place: None,
+    };
+    assert_eq!(rt; told(bench.ask(2, 1)), Some(full));
+    Ok(())
 }
 
 // Seventeen keys have the places before that of key 1.
 #[test]
 fn fault_of_a_full_down_lane(rt: HostRuntime) -> Result<(), Fail> {
-    let mut row = [GroupNumber::new(0); 32];
-    let mut register = Register::new(&mut row);
-    let mut pool = opened(&mut register, 1)?;
-    fill_down_lane(&mut pool, &mut register, 2);
-    assert_eq!(rt; number(ask(&mut pool, &mut register, 2, 1)), 0);
-    assert_eq!(rt; number(pool.deliver_up(2)), 0);
-    tells(
-        &rt,
-        pool.take_up(&register, key(1)),
-        11,
-        Layer::Transport,
-        None,
-        Some(17),
-    )
+    let mut row = [key(0); 32];
+    let mut bench = Bench::loaded(&mut row, 1)?;
+    bench.fill_down_lane(2);
+    assert_eq!(rt; refused(bench.ask(2, 1)), None);
+    assert_eq!(rt; refused(bench.pool.deliver_up(2)), None);
+    let full = Facts {
+        number: 11,
+        layer: Layer::Transport,
+        zone: None,
+        place: Some(17),
+    };
+    assert_eq!(rt; told(bench.take_up(1)), Some(full));
+    Ok(())
 }

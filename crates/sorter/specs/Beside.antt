@@ -4,24 +4,34 @@ use Rattle.messages.specs.declared.requests.Request.{Request}
 use Rattle.messages.specs.declared.requests.Answer.{Answer}
 use Rattle.messages.specs.Central.{answered, left}
 use Rattle.sorter.specs.declared.central.Central.{Central}
+use Rattle.sorter.specs.declared.central.Served.{Served}
 
 -- by whether it is one of the three zones, or above zone 2
 abbrev pub of_three : {X : Type 0} → ℕ → X → X → X
 of_three zone there above = cond (nat_lt zone 3) there above
 
--- a request is under way at a zone
+-- a zone that has started nothing
+abbrev pub untouched : Served
+untouched = record { under_way = None; kept = None }
+
+-- what the table has of a zone
+abbrev pub of_zone : Central → ℕ → Served
+of_zone c zone = slice_index_or c.zones zone untouched
+
+-- a request is under way at a zone, and the answer kept there stays
 abbrev pub accepted : Central → ℕ → Request → Central
-accepted c zone q = of_three zone (record { held = c.held; requests = slice_set c.requests zone (Some q); answers = c.answers }) c
+accepted c zone q =
+    of_three zone (record { held = c.held; zones = slice_set c.zones zone (record { under_way = Some q; kept = (of_zone c zone).kept }) }) c
 
 -- the request under way, if any, is served by the table
 abbrev pub served_by : Option Request → Central → ℕ → Central
 served_by None c zone = c
 served_by (Some q) c zone =
-    record { held = left q c.held; requests = slice_set c.requests zone None; answers = slice_set c.answers zone (Some (answered q c.held)) }
+    record { held = left q c.held; zones = slice_set c.zones zone (record { under_way = None; kept = Some (answered q c.held) }) }
 
 abbrev pub settled : Central → ℕ → Central
-settled c zone = of_three zone (served_by (slice_index_or c.requests zone None) c zone) c
+settled c zone = of_three zone (served_by (of_zone c zone).under_way c zone) c
 
 -- the answer kept for a zone's request
 abbrev pub kept_for : Central → ℕ → Option Answer
-kept_for c zone = of_three zone (slice_index_or c.answers zone None) None
+kept_for c zone = of_three zone (of_zone c zone).kept None

@@ -1,13 +1,15 @@
 // The zones, the directory and the lanes between them for one key, and the central table beside them. Each move is printed.
 use crate::central::Central;
 use crate::faults::Fault;
-use crate::words;
+use crate::words::LaneWords;
 use crate::zones::Zones;
 use directory::records::Record;
+use directory::rows;
+use line::lines::Line;
+use line::states;
 use messages::assignments::Assignment;
 use messages::kinds::{Kind, Message, Outgoing, Up};
 use messages::requests::{Answer, Request};
-use std::alloc::Global;
 use transport::faults::Subject;
 use transport::interface::Transport;
 use transport::lanes::Lane;
@@ -17,7 +19,8 @@ use transport::sending::send_all;
 const PLACE: u8 = 0;
 
 #[derive(Drop)]
-pub(crate) struct Bench<T> {
+pub(crate) struct Bench<'a, T> {
+    rt: &'a HostRuntime,
     lanes: T,
     directory: Record,
     zones: Zones,
@@ -32,30 +35,32 @@ pub(crate) struct Shift {
     pub(crate) zones: Zones,
 }
 
-impl<T: Transport + Drop> Bench<T> {
+impl<'a, T: Transport + Drop> Bench<'a, T> {
     // One zone has the key's assignment, and all lanes are empty.
     pub(crate) fn loaded(
-        heap: Global,
+        rt: &'a HostRuntime,
         transport: T,
         zone: u8,
         assignment: Assignment,
-    ) -> Result<Bench<T>, Fault> {
+    ) -> Result<Bench<'a, T>, Fault> {
         let mut lanes = transport;
         lanes.clear();
         let mut zones = Zones::fresh();
-        zones.load(zone, assignment)?;
+        zones.at(zone)?.line = Line::loaded(assignment);
         let directory = Record::loaded(zone)?;
         Ok(Bench {
+            rt,
             lanes,
             directory,
             zones,
             central: Central::holding(assignment),
-            answers: Vec::new(heap),
+            answers: Vec::new(rt.alloc()),
         })
     }
 
     pub(crate) fn end(self) -> Shift {
         let Bench {
+            rt,
             lanes,
             directory,
             zones,
@@ -65,123 +70,112 @@ impl<T: Transport + Drop> Bench<T> {
         Shift { answers, zones }
     }
 
+    // What comes next, in words.
+    pub(crate) fn title(&self, words: &str) -> Result<(), Fault> {
+        println!(self.rt; "-- {words}")?;
+        Ok(())
+    }
+
     // A user's request at a zone.
-    pub(crate) fn start(
-        &mut self,
-        rt: &HostRuntime,
-        zone: u8,
-        request: Request,
-    ) -> Result<(), Fault> {
-        println!(rt; "   zone {zone} starts {}", words::of_request(request))?;
-        let effect = self.zones.request(zone, request)?;
+    pub(crate) fn start(&mut self, zone: u8, request: Request) -> Result<(), Fault> {
+        println!(self.rt; "   zone {zone} starts {request}")?;
+        let effect = self.zones.at(zone)?.request(request)?;
         self.central.accept(zone, request);
         if effect.answer.is_some() {
             self.central.settle(zone);
         }
-        self.send_up(rt, zone, effect.sent)?;
-        self.answer(rt, zone, effect.answer)
+        self.follow_line(zone, effect)
     }
 
     // A zone drops a copy that it shares and does not own.
-    pub(crate) fn let_go(&mut self, rt: &HostRuntime, zone: u8) -> Result<(), Fault> {
-        println!(rt; "   zone {zone} lets go")?;
-        let effect = self.zones.let_go(zone)?;
-        self.send_up(rt, zone, effect.sent)
+    pub(crate) fn let_go(&mut self, zone: u8) -> Result<(), Fault> {
+        println!(self.rt; "   zone {zone} lets go")?;
+        let effect = self.zones.at(zone)?.line.let_go()?;
+        self.follow_line(zone, effect)
     }
 
     // The oldest message of a zone's up lane reaches the directory.
-    pub(crate) fn deliver_up(&mut self, rt: &HostRuntime, zone: u8) -> Result<(), Fault> {
-        let kind = self.take(rt, Lane::Up(zone))?;
+    pub(crate) fn deliver_up(&mut self, zone: u8) -> Result<(), Fault> {
+        let kind = self.take(Lane::Up(zone))?;
         let effect = self.directory.deliver(zone, kind)?;
-        self.send_down(rt, effect.outgoing)?;
-        self.settle(rt, effect.settled)
+        self.follow_directory(effect)
     }
 
     // The directory serves the first waiting request.
-    pub(crate) fn take_up(&mut self, rt: &HostRuntime) -> Result<(), Fault> {
-        println!(rt; "   the directory takes up")?;
+    pub(crate) fn take_up(&mut self) -> Result<(), Fault> {
+        println!(self.rt; "   the directory takes up")?;
         let effect = self.directory.take_up()?;
-        self.send_down(rt, effect.outgoing)?;
-        self.settle(rt, effect.settled)
+        self.follow_directory(effect)
     }
 
     // The oldest message of a zone's down lane reaches the zone's line.
-    pub(crate) fn deliver_down(&mut self, rt: &HostRuntime, zone: u8) -> Result<(), Fault> {
-        let kind = self.take(rt, Lane::Down(zone))?;
-        let effect = self.zones.receive(zone, kind)?;
-        println!(rt;
-            "   zone {zone} is in {}",
-            words::of_state(self.zones.state(zone)?)
-        )?;
-        self.send_up(rt, zone, effect.sent)?;
-        self.answer(rt, zone, effect.answer)
+    pub(crate) fn deliver_down(&mut self, zone: u8) -> Result<(), Fault> {
+        let kind = self.take(Lane::Down(zone))?;
+        let line = &mut self.zones.at(zone)?.line;
+        let effect = line.receive(kind)?;
+        println!(self.rt; "   zone {zone} is in {}", line.state())?;
+        self.follow_line(zone, effect)
     }
 
-    fn take(&mut self, rt: &HostRuntime, lane: Lane) -> Result<Kind, Fault> {
-        let Some(message) = self.lanes.take(lane) else {
-            let (_, zone) = words::of_lane(lane);
-            return Err(Fault::LaneEmpty(zone));
-        };
-        tell(rt, "delivered", lane, message.kind)?;
+    fn take(&mut self, lane: Lane) -> Result<Kind, Fault> {
+        let (Lane::Up(zone) | Lane::Down(zone)) = lane;
+        let message = self.lanes.take(lane).ok_or(Fault::LaneEmpty(zone))?;
+        self.tell("delivered", lane, message.kind)?;
         Ok(message.kind)
     }
 
-    fn send_up(&mut self, rt: &HostRuntime, zone: u8, sent: Option<Up>) -> Result<(), Fault> {
-        let Some(up) = sent else {
-            return Ok(());
-        };
-        let kind = Kind::Up(up);
-        self.lanes
-            .put(Lane::Up(zone), Message { kind, place: PLACE })?;
-        tell(rt, "sent", Lane::Up(zone), kind)
+    // What a zone's line sends goes up, and what it answers is compared.
+    fn follow_line(&mut self, zone: u8, effect: states::Effect) -> Result<(), Fault> {
+        if let Some(up) = effect.sent {
+            self.send_up(zone, up)?;
+        }
+        if let Some(answer) = effect.answer {
+            self.answer(zone, answer)?;
+        }
+        Ok(())
     }
 
-    fn send_down(&mut self, rt: &HostRuntime, outgoing: Outgoing) -> Result<(), Fault> {
+    // What the directory sends goes down, and what it settles is told.
+    fn follow_directory(&mut self, effect: rows::Effect) -> Result<(), Fault> {
+        self.send_down(effect.outgoing)?;
+        if let Some(zone) = effect.settled {
+            self.central.settle(zone);
+            println!(self.rt; "   zone {zone}'s request is settled")?;
+        }
+        Ok(())
+    }
+
+    fn send_up(&mut self, zone: u8, up: Up) -> Result<(), Fault> {
+        let lane = Lane::Up(zone);
+        let kind = Kind::Up(up);
+        self.lanes.put(lane, Message { kind, place: PLACE })?;
+        self.tell("sent", lane, kind)
+    }
+
+    fn send_down(&mut self, outgoing: Outgoing) -> Result<(), Fault> {
         send_all(&mut self.lanes, PLACE, outgoing, Subject::Place(PLACE))?;
-        for zone in 0..8u8 {
-            let sent = outgoing.to[zone as usize];
+        for (zone, sent) in (0..).zip(outgoing.to.iter()) {
             if let Some(down) = sent {
-                tell(rt, "sent", Lane::Down(zone), Kind::Down(down))?;
+                self.tell("sent", Lane::Down(zone), Kind::Down(*down))?;
             }
         }
         Ok(())
     }
 
-    fn settle(&mut self, rt: &HostRuntime, settled: Option<u8>) -> Result<(), Fault> {
-        let Some(zone) = settled else {
-            return Ok(());
-        };
-        self.central.settle(zone);
-        println!(rt; "   zone {zone}'s request is settled")?;
-        Ok(())
-    }
-
-    fn answer(&mut self, rt: &HostRuntime, zone: u8, given: Option<Answer>) -> Result<(), Fault> {
-        let Some(answer) = given else {
-            return Ok(());
-        };
-        let Some(central) = self.central.kept(zone) else {
-            return Err(Fault::NotSettled(zone));
-        };
-        println!(rt;
-            "   zone {zone} answers {}; the central table: {}",
-            words::of_answer(answer),
-            words::of_answer(central)
-        )?;
+    // An answer is the central table's.
+    fn answer(&mut self, zone: u8, answer: Answer) -> Result<(), Fault> {
+        let central = self.central.kept(zone).ok_or(Fault::NotSettled(zone))?;
+        println!(self.rt; "   zone {zone} answers {answer}; the central table: {central}")?;
         if answer != central {
             return Err(Fault::AnswerDiffers(zone));
         }
         self.answers.push(answer)?;
         Ok(())
     }
-}
 
-// Tells of a message on a lane.
-fn tell(rt: &HostRuntime, event: &'static str, lane: Lane, kind: Kind) -> Result<(), Fault> {
-    let (direction, zone) = words::of_lane(lane);
-    println!(rt;
-        "      {event:9} {direction:4} {zone} {}",
-        words::of_kind(kind)
-    )?;
-    Ok(())
+    // Tells of a message on a lane.
+    fn tell(&self, event: &str, lane: Lane, kind: Kind) -> Result<(), Fault> {
+        println!(self.rt; "      {event:9} {} {kind}", LaneWords(lane))?;
+        Ok(())
+    }
 }

@@ -1,6 +1,6 @@
 // The central pool beside the zones: one table for the key, which sees requests, settlements and answers.
-ghost use Rattle.std.specs.Prelude.{◌≡◌, replicate, Some, None};
-ghost use Rattle.sorter.specs.Beside.{accepted, settled, kept_for};
+ghost use Rattle.std.specs.Prelude.{◌≡◌, replicate, Some};
+ghost use Rattle.sorter.specs.Beside.{untouched, accepted, settled, kept_for};
 
 use crate::zones::ZONES;
 use messages::assignments::Assignment;
@@ -10,35 +10,42 @@ use messages::requests::{Answer, Request};
 #[derive(Clone, Copy)]
 pub(crate) struct Central {
     held: Option<Assignment>,
-    // by zone: the request under way, and once it is settled its answer
-    requests: [Option<Request>; ZONES],
-    answers: [Option<Answer>; ZONES],
+    zones: [Served; ZONES],
+}
+
+// What the table has of a zone: the request under way, and the answer to the one that was settled last.
+#[derive(Clone, Copy)]
+pub(crate) struct Served {
+    under_way: Option<Request>,
+    kept: Option<Answer>,
 }
 
 impl Central {
     pub(crate) fn holding(assignment: Assignment) -> Central
         ensures held { result.held ≡ Some assignment }
-        ensures requests { result.requests ≡ replicate 3 None }
-        ensures answers { result.answers ≡ replicate 3 None }
+        ensures zones { result.zones ≡ replicate 3 untouched }
     {
+        let untouched = Served {
+            under_way: None,
+            kept: None,
+        };
         Central {
             held: Some(assignment),
-            requests: [None; ZONES],
-            answers: [None; ZONES],
+            zones: [untouched; ZONES],
         }
     }
 
-    // A request was accepted at a zone.
+    // A request was accepted at a zone. The answer kept there stays.
     pub(crate) fn accept(&mut self, zone: u8, request: Request)
         ensures { self.new ≡ accepted self.old zone request }
     {
         let at = zone as usize;
         if at < ZONES {
-            self.requests[at] = Some(request);
+            self.zones[at].under_way = Some(request);
         }
     }
 
-    // The zone's request is settled: the table serves it now, and its answer is kept.
+    // The zone's request is settled: the table serves it at this moment, and its answer is kept.
     pub(crate) fn settle(&mut self, zone: u8)
         ensures { self.new ≡ settled self.old zone }
     {
@@ -46,11 +53,12 @@ impl Central {
         if at >= ZONES {
             return;
         }
-        let under_way = self.requests[at];
-        if let Some(request) = under_way {
-            self.answers[at] = Some(answer(request, self.held));
+        if let Some(request) = self.zones[at].under_way {
+            self.zones[at] = Served {
+                under_way: None,
+                kept: Some(answer(request, self.held)),
+            };
             self.held = key_after(request, self.held);
-            self.requests[at] = None;
         }
     }
 
@@ -58,7 +66,6 @@ impl Central {
     pub(crate) fn kept(&self, zone: u8) -> Option<Answer>
         ensures { result ≡ kept_for self.now zone }
     {
-        let at = zone as usize;
-        if at < ZONES { self.answers[at] } else { None }
+        self.zones.get(zone as usize)?.kept
     }
 }

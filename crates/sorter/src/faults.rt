@@ -3,70 +3,43 @@ use crate::morning::Objection;
 use calls::faults::Fault as PoolFault;
 use messages::refusals::Refusal;
 use pool::running::RunFault;
-use std::alloc::{AllocError, AllocFailed};
+use std::alloc::AllocError;
 use std::io;
+use thiserror::Error;
 use transport::faults::TransportFault;
 
-#[derive(Debug, Drop)]
+#[derive(Debug, Drop, Error)]
 pub(crate) enum Fault {
-    Step(Refusal),
-    Transport(TransportFault),
-    // nothing waits in a lane of this zone
+    #[error("a step was refused: {0}")]
+    Step(#[from] Refusal),
+    #[error("the transport refused: {}", .0.refusal())]
+    Transport(#[from] TransportFault),
+    #[error("nothing waits in a lane of zone {0}")]
     LaneEmpty(u8),
-    // a zone answered a request that was not settled
+    #[error("zone {0} answered a request that was not settled")]
     NotSettled(u8),
-    // a zone's answer is not the central table's
+    #[error("an answer of zone {0} is not the central table's")]
     AnswerDiffers(u8),
+    #[error("the backplanes gave different answers")]
     BackplanesDiffer,
-    // the stock was refused
+    #[error("the stock was refused: {}", .0.refusal())]
     Load(PoolFault),
-    Onlooker(Objection),
+    #[error("the onlooker objects: {0}")]
+    Onlooker(#[from] Objection),
+    #[error("the runs of the morning differ")]
     RunsDiffer,
-    Memory,
-    Output(io::Error),
+    #[error("out of memory")]
+    Memory(#[from(alloc)] AllocError),
+    #[error("what is printed could not be written: {0}")]
+    Output(#[from] io::Error),
 }
 
-impl From<Refusal> for Fault {
-    fn from(refusal: Refusal) -> Fault {
-        Fault::Step(refusal)
-    }
-}
-
-impl From<TransportFault> for Fault {
-    fn from(fault: TransportFault) -> Fault {
-        Fault::Transport(fault)
-    }
-}
-
+// By hand, as it has two variants that become two.
 impl From<RunFault> for Fault {
     fn from(fault: RunFault) -> Fault {
         match fault {
-            RunFault::Memory => Fault::Memory,
+            RunFault::Memory => Fault::Memory(AllocError),
             RunFault::Pool(fault) => Fault::Load(fault),
         }
-    }
-}
-
-impl From<Objection> for Fault {
-    fn from(objection: Objection) -> Fault {
-        Fault::Onlooker(objection)
-    }
-}
-
-impl From<AllocError> for Fault {
-    fn from(_error: AllocError) -> Fault {
-        Fault::Memory
-    }
-}
-
-impl From<io::Error> for Fault {
-    fn from(error: io::Error) -> Fault {
-        Fault::Output(error)
-    }
-}
-
-impl<T: Drop> From<AllocFailed<T>> for Fault {
-    fn from(_value: AllocFailed<T>) -> Fault {
-        Fault::Memory
     }
 }

@@ -7,6 +7,7 @@ mod central;
 mod faults;
 mod morning;
 mod scenes;
+mod shares;
 mod shift;
 mod words;
 mod zones;

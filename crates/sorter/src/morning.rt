@@ -2,18 +2,18 @@
 mod onlooker;
 mod scenes;
 mod script;
-mod shares;
 mod tags;
+mod tally;
 mod telling;
 
 use crate::faults::Fault;
+use crate::shares;
 use keys::key::Key;
 use keys::kinds::{CageTag, GroupNumber};
 pub(crate) use onlooker::Objection;
-use onlooker::Seen;
+use onlooker::{Seen, watch};
 use pool::running::run;
-use rules::plan::Plan;
-use script::{Day, Outcome, PLACES, Script, ZONES};
+use script::{Day, Outcome, PLACES, Script};
 use std::alloc::Global;
 use transport::belt::Belt;
 use transport::interface::Transport;
@@ -28,11 +28,10 @@ struct Watched {
 
 pub(crate) fn report(rt: &HostRuntime) -> Result<(), Fault> {
     let heap = rt.alloc();
-    let plan = Plan::new(ZONES as u8, PLACES as u8, 101)?;
     let script = script::morning(heap)?;
-    let first = with_groups(plan, Rings::new(), &script.day, heap)?;
+    let first = script.day.watched(Rings::new(), GroupNumber::new(0), heap)?;
     tell_first(rt, &script, &first)?;
-    again(rt, plan, &script.day, &first)?;
+    again(rt, &script.day, &first)?;
     println!(rt; "== all four runs agreed")?;
     Ok(())
 }
@@ -45,84 +44,69 @@ fn tell_first(rt: &HostRuntime, script: &Script, first: &Watched) -> Result<(), 
         "-- {} starts were accepted, and each was answered as by the central pool",
         first.seen.accepted
     )?;
-    shares::tell(rt, &script.day, &first.results)
-}
-
-// The same morning over the other backplane, and with the other kind of key.
-fn again(
-    rt: &HostRuntime,
-    plan: Plan,
-    day: &Day<GroupNumber>,
-    first: &Watched,
-) -> Result<(), Fault> {
-    let heap = rt.alloc();
-    let tagged = tags::tagged(day, heap)?;
-    println!(rt; "-- the same morning again")?;
-    agree(
+    shares::tell(
         rt,
-        "the belt, with group numbers",
-        first,
-        with_groups(plan, Belt::new(), day, heap)?,
-    )?;
-    agree(
-        rt,
-        "the rings, with cage tags",
-        first,
-        with_tags(plan, Rings::new(), &tagged, heap)?,
-    )?;
-    agree(
-        rt,
-        "the belt, with cage tags",
-        first,
-        with_tags(plan, Belt::new(), &tagged, heap)?,
+        &tally::tallied(&script.day, &first.results),
+        "were hits",
     )
 }
 
-fn with_groups<T: Transport + Drop>(
-    plan: Plan,
-    transport: T,
-    day: &Day<GroupNumber>,
-    heap: Global,
-) -> Result<Watched, Fault> {
-    let mut row = [GroupNumber::new(0); PLACES];
-    run_watched(plan, transport, &mut row, day, heap)
-}
-
-fn with_tags<T: Transport + Drop>(
-    plan: Plan,
-    transport: T,
-    day: &Day<CageTag>,
-    heap: Global,
-) -> Result<Watched, Fault> {
-    let mut row = [CageTag::new(0, 0, 0); PLACES];
-    run_watched(plan, transport, &mut row, day, heap)
-}
-
-fn run_watched<T: Transport + Drop, K: Key + Copy>(
-    plan: Plan,
-    transport: T,
-    row: &mut [K],
-    day: &Day<K>,
-    heap: Global,
-) -> Result<Watched, Fault> {
-    let results = run(plan, transport, row, &day.stock, &day.calls, heap)?;
-    let seen = onlooker::watch(plan, day, &results, heap)?;
-    Ok(Watched { results, seen })
-}
-
-fn agree(
-    rt: &HostRuntime,
-    how: &'static str,
-    first: &Watched,
-    other: Watched,
-) -> Result<(), Fault> {
-    if other.results != first.results {
-        return Err(Fault::RunsDiffer);
-    }
-    println!(rt;
-        "   over {how}: the same {} results, and {} answers as by the central pool",
-        other.results.len(),
-        other.seen.accepted
+// The same morning over the other backplane, and with the other kind of key.
+fn again(rt: &HostRuntime, day: &Day<GroupNumber>, first: &Watched) -> Result<(), Fault> {
+    let heap = rt.alloc();
+    let group = GroupNumber::new(0);
+    let tagged = tags::tagged(day, heap)?;
+    let tag = CageTag::new(0, 0, 0);
+    println!(rt; "-- the same morning again")?;
+    first.agrees(
+        rt,
+        "the belt, with group numbers",
+        &day.watched(Belt::new(), group, heap)?,
     )?;
-    Ok(())
+    first.agrees(
+        rt,
+        "the rings, with cage tags",
+        &tagged.watched(Rings::new(), tag, heap)?,
+    )?;
+    first.agrees(
+        rt,
+        "the belt, with cage tags",
+        &tagged.watched(Belt::new(), tag, heap)?,
+    )
+}
+
+impl<K: Key + Copy> Day<K> {
+    // A run over a backplane, under an onlooker's eyes. The blank key stands in free places.
+    fn watched<T: Transport + Drop>(
+        &self,
+        transport: T,
+        blank: K,
+        heap: Global,
+    ) -> Result<Watched, Fault> {
+        let mut row = [blank; PLACES];
+        let results = run(
+            self.plan,
+            transport,
+            &mut row,
+            &self.stock,
+            &self.calls,
+            heap,
+        )?;
+        let seen = watch(self, &results, heap)?;
+        Ok(Watched { results, seen })
+    }
+}
+
+impl Watched {
+    fn agrees(&self, rt: &HostRuntime, how: &str, other: &Watched) -> Result<(), Fault> {
+        if other.results != self.results {
+            return Err(Fault::RunsDiffer);
+        }
+        println!(rt;
+            "   over {how}: the same {} results, and {} answers as by the central pool",
+            other.results.len(),
+            other.seen.accepted
+        )?;
+        Ok(())
+    }
 }

@@ -7,90 +7,73 @@ use transport::interface::Transport;
 
 pub(crate) fn run<T: Transport + Drop>(rt: &HostRuntime, transport: T) -> Result<Shift, Fault> {
     println!(rt; "-- zone 0 is loaded with 12/5")?;
-    let mut bench = Bench::loaded(rt.alloc(), transport, 0, Assignment::new(12, 5)?)?;
-    println!(rt; "-- zone 1 misses, and the owner serves it")?;
-    read_from(rt, &mut bench, 1, 0)?;
-    println!(rt; "-- zone 2 reads too")?;
-    read_from(rt, &mut bench, 2, 1)?;
-    let_go_and_read(rt, &mut bench)?;
-    write_over_readers(rt, &mut bench, Assignment::new(40, 6)?)?;
-    extraction_crosses_invalidate(rt, &mut bench, Assignment::new(7, 8)?)?;
-    remove(rt, &mut bench)?;
-    read_nothing(rt, &mut bench)?;
+    let mut bench = Bench::loaded(rt, transport, 0, Assignment::new(12, 5)?)?;
+    bench.title("zone 1 misses, and the owner serves it")?;
+    bench.read_from(1, 0)?;
+    bench.title("zone 2 reads too")?;
+    bench.read_from(2, 1)?;
+    bench.let_go_and_read()?;
+    bench.write_over_readers(Assignment::new(40, 6)?)?;
+    bench.extraction_crosses_invalidate(Assignment::new(7, 8)?)?;
+    bench.remove()?;
+    bench.read_nothing()?;
     Ok(bench.end())
 }
 
-// A zone without a copy reads, and the owner supplies the copy.
-fn read_from<T: Transport + Drop>(
-    rt: &HostRuntime,
-    bench: &mut Bench<T>,
-    zone: u8,
-    owner: u8,
-) -> Result<(), Fault> {
-    bench.start(rt, zone, Request::CarbonCopy)?;
-    bench.deliver_up(rt, zone)?;
-    bench.take_up(rt)?;
-    bench.deliver_down(rt, owner)?;
-    bench.deliver_up(rt, owner)?;
-    bench.deliver_down(rt, zone)
-}
+impl<T: Transport + Drop> Bench<'_, T> {
+    // A zone's request, which its line does not answer by itself, reaches the directory and is served first.
+    fn demand(&mut self, zone: u8, request: Request) -> Result<(), Fault> {
+        self.start(zone, request)?;
+        self.deliver_up(zone)?;
+        self.take_up()
+    }
 
-fn let_go_and_read<T: Transport + Drop>(
-    rt: &HostRuntime,
-    bench: &mut Bench<T>,
-) -> Result<(), Fault> {
-    println!(rt; "-- zone 1 lets go of its copy, and reads again; zone 0 reads what it has")?;
-    bench.let_go(rt, 1)?;
-    bench.deliver_up(rt, 1)?;
-    read_from(rt, bench, 1, 2)?;
-    bench.start(rt, 0, Request::CarbonCopy)
-}
+    // A zone without a copy reads, and the owner supplies the copy.
+    fn read_from(&mut self, zone: u8, owner: u8) -> Result<(), Fault> {
+        self.demand(zone, Request::CarbonCopy)?;
+        self.deliver_down(owner)?;
+        self.deliver_up(owner)?;
+        self.deliver_down(zone)
+    }
 
-fn write_over_readers<T: Transport + Drop>(
-    rt: &HostRuntime,
-    bench: &mut Bench<T>,
-    new: Assignment,
-) -> Result<(), Fault> {
-    println!(rt; "-- zone 0 writes, and the other readers are invalidated")?;
-    bench.start(rt, 0, Request::GetIfAnyAndPut(new))?;
-    bench.deliver_up(rt, 0)?;
-    bench.take_up(rt)?;
-    bench.deliver_down(rt, 1)?;
-    bench.deliver_down(rt, 2)?;
-    bench.deliver_up(rt, 2)?;
-    bench.deliver_up(rt, 1)?;
-    bench.deliver_down(rt, 0)
-}
+    fn let_go_and_read(&mut self) -> Result<(), Fault> {
+        self.title("zone 1 lets go of its copy, and reads again; zone 0 reads what it has")?;
+        self.let_go(1)?;
+        self.deliver_up(1)?;
+        self.read_from(1, 2)?;
+        self.start(0, Request::CarbonCopy)
+    }
 
-fn extraction_crosses_invalidate<T: Transport + Drop>(
-    rt: &HostRuntime,
-    bench: &mut Bench<T>,
-    new: Assignment,
-) -> Result<(), Fault> {
-    println!(rt; "-- zone 1 puts; zone 0's extraction crosses the invalidate")?;
-    bench.start(rt, 1, Request::Put(new))?;
-    bench.deliver_up(rt, 1)?;
-    bench.take_up(rt)?;
-    bench.start(rt, 0, Request::GetIfAny)?;
-    bench.deliver_down(rt, 0)?;
-    bench.deliver_up(rt, 0)?;
-    bench.deliver_down(rt, 1)
-}
+    fn write_over_readers(&mut self, new: Assignment) -> Result<(), Fault> {
+        self.title("zone 0 writes, and the other readers are invalidated")?;
+        self.demand(0, Request::GetIfAnyAndPut(new))?;
+        self.deliver_down(1)?;
+        self.deliver_down(2)?;
+        self.deliver_up(2)?;
+        self.deliver_up(1)?;
+        self.deliver_down(0)
+    }
 
-fn remove<T: Transport + Drop>(rt: &HostRuntime, bench: &mut Bench<T>) -> Result<(), Fault> {
-    println!(rt; "-- zone 2 removes what zone 1 has")?;
-    bench.start(rt, 2, Request::Remove)?;
-    bench.deliver_up(rt, 2)?;
-    bench.take_up(rt)?;
-    bench.deliver_down(rt, 1)?;
-    bench.deliver_up(rt, 1)?;
-    bench.deliver_down(rt, 2)
-}
+    fn extraction_crosses_invalidate(&mut self, new: Assignment) -> Result<(), Fault> {
+        self.title("zone 1 puts; zone 0's extraction crosses the invalidate")?;
+        self.demand(1, Request::Put(new))?;
+        self.start(0, Request::GetIfAny)?;
+        self.deliver_down(0)?;
+        self.deliver_up(0)?;
+        self.deliver_down(1)
+    }
 
-fn read_nothing<T: Transport + Drop>(rt: &HostRuntime, bench: &mut Bench<T>) -> Result<(), Fault> {
-    println!(rt; "-- zone 0 reads, and nothing is found")?;
-    bench.start(rt, 0, Request::CarbonCopy)?;
-    bench.deliver_up(rt, 0)?;
-    bench.take_up(rt)?;
-    bench.deliver_down(rt, 0)
+    fn remove(&mut self) -> Result<(), Fault> {
+        self.title("zone 2 removes what zone 1 has")?;
+        self.demand(2, Request::Remove)?;
+        self.deliver_down(1)?;
+        self.deliver_up(1)?;
+        self.deliver_down(2)
+    }
+
+    fn read_nothing(&mut self) -> Result<(), Fault> {
+        self.title("zone 0 reads, and nothing is found")?;
+        self.demand(0, Request::CarbonCopy)?;
+        self.deliver_down(0)
+    }
 }

@@ -1,42 +1,37 @@
 // A small shift report: places of cage tags, a hold on the pause board, and the zones' hit shares.
 use crate::faults::Fault;
-use crate::zones::{ZONES, Zones};
+use crate::shares;
+use crate::zones::Zones;
 use keys::kinds::CageTag;
 use keys::register::Register;
 use messages::refusals::Refusal;
 use rules::board::PauseBoard;
-use rules::hits::hit_share;
 
 pub(crate) fn report(rt: &HostRuntime, zones: Zones) -> Result<(), Fault> {
     println!(rt; "== shift report")?;
     places(rt)?;
     holds(rt)?;
-    shares(rt, zones)
+    shares::tell(rt, &zones.counts(), "answered by itself")
 }
 
 fn places(rt: &HostRuntime) -> Result<(), Fault> {
     let mut row = [CageTag::new(0, 0, 0); 4];
     let mut register = Register::new(&mut row);
-    give_place(rt, &mut register, CageTag::new(7, 70, 1))?;
-    give_place(rt, &mut register, CageTag::new(7, 71, 1))?;
-    give_place(rt, &mut register, CageTag::new(9, 70, 1))?;
-    give_place(rt, &mut register, CageTag::new(7, 70, 2))
-}
-
-fn give_place(
-    rt: &HostRuntime,
-    register: &mut Register<'_, CageTag>,
-    tag: CageTag,
-) -> Result<(), Fault> {
-    let Some(place) = register.add(tag) else {
-        return Err(Fault::Step(Refusal::NoPlace));
-    };
-    println!(rt;
-        "   carrier {} cage {} reprint {}: place {place}",
-        tag.carrier(),
-        tag.cage(),
-        tag.reprint()
-    )?;
+    let tags = [
+        CageTag::new(7, 70, 1),
+        CageTag::new(7, 71, 1),
+        CageTag::new(9, 70, 1),
+        CageTag::new(7, 70, 2),
+    ];
+    for tag in tags {
+        let place = register.add(tag).ok_or(Refusal::NoPlace)?;
+        println!(rt;
+            "   carrier {} cage {} reprint {}: place {place}",
+            tag.carrier(),
+            tag.cage(),
+            tag.reprint()
+        )?;
+    }
     Ok(())
 }
 
@@ -52,23 +47,10 @@ fn hold(rt: &HostRuntime, board: &mut PauseBoard) -> Result<(), Fault> {
     tell_open(rt, "under the hold", hold.board())
 }
 
-fn tell_open(rt: &HostRuntime, when: &'static str, board: &PauseBoard) -> Result<(), Fault> {
+fn tell_open(rt: &HostRuntime, when: &str, board: &PauseBoard) -> Result<(), Fault> {
     match board.check_open(2) {
         Ok(()) => println!(rt; "   {when} zone 2 takes starts")?,
         Err(refusal) => println!(rt; "   {when} zone 2 refuses starts by {}", refusal.number())?,
-    }
-    Ok(())
-}
-
-fn shares(rt: &HostRuntime, zones: Zones) -> Result<(), Fault> {
-    for zone in 0..ZONES as u8 {
-        let (hits, starts) = zones.counts(zone)?;
-        match hit_share(hits, starts) {
-            Some(share) => println!(rt;
-                "   zone {zone}: {hits} of {starts} starts answered by itself, {share} percent"
-            )?,
-            None => println!(rt; "   zone {zone}: no start yet")?,
-        }
     }
     Ok(())
 }

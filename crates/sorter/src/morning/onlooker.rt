@@ -7,27 +7,27 @@ use keys::key::Key;
 use messages::assignments::Assignment;
 use messages::central;
 use messages::requests::{Answer, Request};
-use rules::plan::Plan;
 use std::alloc::Global;
+use thiserror::Error;
 
 // What the onlooker objects to, with the number of the request.
-#[derive(Clone, Copy, Debug)]
+#[derive(Clone, Copy, Debug, Error)]
 pub(crate) enum Objection {
-    // an accepted start has no number, or not the next one
+    #[error("an accepted start has no number, or not the next one: {0:?}")]
     Numbered(Option<u32>),
-    // settled without being accepted, or a second time
+    #[error("{0} is settled without being accepted, or a second time")]
     Settled(u32),
-    // answered without being settled, or a second time
+    #[error("{0} is answered without being settled, or a second time")]
     Answered(u32),
-    // answered otherwise than by the central pool
+    #[error("{0} is answered otherwise than by the central pool")]
     Differs(u32),
-    // there is not a result for each call
+    #[error("there is not a result for each call")]
     Results,
-    // accepted and never answered
+    #[error("a start is accepted and never answered")]
     Unanswered,
 }
 
-#[derive(Clone, Copy)]
+#[derive(Clone, Copy, PartialEq, Eq)]
 enum Progress {
     Accepted,
     Settled(Answer),
@@ -41,7 +41,8 @@ struct Entry<K> {
     progress: Progress,
 }
 
-// What the central pool holds for a key.
+// What the central pool holds for a key. A key tells only whether another is the same: it has no order and no hash, so the keys
+// stand in a list and not in a map.
 #[derive(Clone, Copy)]
 struct Held<K> {
     key: K,
@@ -65,18 +66,17 @@ pub(crate) struct Seen {
 
 // Watches a whole day, at the end of which every accepted start is answered.
 pub(crate) fn watch<K: Key + Copy>(
-    plan: Plan,
     day: &Day<K>,
-    results: &Vec<Outcome>,
+    results: &[Outcome],
     heap: Global,
 ) -> Result<Seen, Fault> {
     if day.calls.len() != results.len() {
-        return Err(Fault::Onlooker(Objection::Results));
+        return Err(Objection::Results.into());
     }
-    let mut onlooker = Onlooker::before(plan, day, heap)?;
+    let mut onlooker = Onlooker::before(day, heap)?;
     let mut answers = Vec::new(heap);
-    for (call, result) in day.calls.iter().zip(results.iter()) {
-        answers.push(onlooker.see(*call, *result)?)?;
+    for (call, outcome) in day.calls.iter().zip(results.iter()) {
+        answers.push(onlooker.see(*call, *outcome)?)?;
     }
     onlooker.check_all_answered()?;
     Ok(Seen {
@@ -87,16 +87,17 @@ pub(crate) fn watch<K: Key + Copy>(
 
 impl<K: Key + Copy> Onlooker<K> {
     // The central pool holds the stock.
-    fn before(plan: Plan, day: &Day<K>, heap: Global) -> Result<Onlooker<K>, Fault> {
-        let mut held = Vec::new(heap);
-        for item in day.stock.iter() {
-            held.push(Held {
+    fn before(day: &Day<K>, heap: Global) -> Result<Onlooker<K>, Fault> {
+        let held = day
+            .stock
+            .iter()
+            .map(|item| Held {
                 key: item.key,
                 assignment: Some(item.assignment),
-            })?;
-        }
+            })
+            .collect(heap)?;
         Ok(Onlooker {
-            first_number: plan.first_number(),
+            first_number: day.plan.first_number(),
             entries: Vec::new(heap),
             held,
         })
@@ -107,40 +108,33 @@ impl<K: Key + Copy> Onlooker<K> {
         let Ok(report) = res else {
             return Ok(None);
         };
-        if let Call::Start {
-            zone: _,
-            key,
-            request,
-            board: _,
-        } = call
-        {
+        if let Call::Start { key, request, .. } = call {
             self.accept(report.number, key, request)?;
         }
         if let Some(number) = report.settled {
             self.settle(number)?;
         }
-        match report.answered {
-            Some(answered) => Ok(Some(self.compare(answered)?)),
-            None => Ok(None),
-        }
+        Ok(report
+            .answered
+            .map(|answered| self.compare(answered))
+            .transpose()?)
     }
 
     // Keeps key and request under the number given, which is the next one.
     fn accept(&mut self, number: Option<u32>, key: K, request: Request) -> Result<(), Fault> {
-        match number {
-            Some(given) if self.place(given) == Some(self.entries.len()) => {
-                self.entries.push(Entry {
-                    key,
-                    request,
-                    progress: Progress::Accepted,
-                })?;
-                Ok(())
-            }
-            _ => Err(Fault::Onlooker(Objection::Numbered(number))),
+        let place = number.and_then(|given| self.place(given));
+        if place != Some(self.entries.len()) {
+            return Err(Objection::Numbered(number).into());
         }
+        self.entries.push(Entry {
+            key,
+            request,
+            progress: Progress::Accepted,
+        })?;
+        Ok(())
     }
 
-    // The request is served by the table now, and its answer kept.
+    // The request is served by the table at this moment, and its answer kept.
     fn settle(&mut self, number: u32) -> Result<(), Fault> {
         let Some(
             Entry {
@@ -150,7 +144,7 @@ impl<K: Key + Copy> Onlooker<K> {
             },
         ) = self.entry(number)
         else {
-            return Err(Fault::Onlooker(Objection::Settled(number)));
+            return Err(Objection::Settled(number).into());
         };
         let old = self.holding(&key);
         self.hold(key, central::key_after(request, old))?;
@@ -161,14 +155,7 @@ impl<K: Key + Copy> Onlooker<K> {
     // The answer given is the one kept.
     fn compare(&mut self, answered: Answered) -> Result<Answer, Objection> {
         let number = answered.number;
-        let Some(
-            Entry {
-                key: _,
-                request: _,
-                progress: Progress::Settled(kept),
-            },
-        ) = self.entry(number)
-        else {
+        let Some(Progress::Settled(kept)) = self.entry(number).map(|entry| entry.progress) else {
             return Err(Objection::Answered(number));
         };
         if answered.answer != kept {
@@ -179,20 +166,21 @@ impl<K: Key + Copy> Onlooker<K> {
     }
 
     fn check_all_answered(&self) -> Result<(), Objection> {
-        for entry in self.entries.iter() {
-            match entry.progress {
-                Progress::Answered => {}
-                _ => return Err(Objection::Unanswered),
-            }
+        let answered = self
+            .entries
+            .iter()
+            .all(|entry| entry.progress == Progress::Answered);
+        if answered {
+            Ok(())
+        } else {
+            Err(Objection::Unanswered)
         }
-        Ok(())
     }
 
     fn place(&self, number: u32) -> Option<usize> {
-        match number.checked_sub(self.first_number) {
-            Some(place) => Some(place as usize),
-            None => None,
-        }
+        number
+            .checked_sub(self.first_number)
+            .map(|place| place as usize)
     }
 
     fn entry(&self, number: u32) -> Option<Entry<K>> {
@@ -200,31 +188,22 @@ impl<K: Key + Copy> Onlooker<K> {
     }
 
     fn advance(&mut self, number: u32, progress: Progress) {
-        let Some(place) = self.place(number) else {
-            return;
-        };
-        if let Some(entry) = self.entries.get_mut(place) {
+        if let Some(place) = self.place(number)
+            && let Some(entry) = self.entries.get_mut(place)
+        {
             entry.progress = progress;
         }
     }
 
     fn holding(&self, key: &K) -> Option<Assignment> {
-        for held in self.held.iter() {
-            if held.key.same(key) {
-                return held.assignment;
-            }
-        }
-        None
+        self.held.iter().find(|held| held.key.same(key))?.assignment
     }
 
     fn hold(&mut self, key: K, assignment: Option<Assignment>) -> Result<(), Fault> {
-        for held in self.held.iter_mut() {
-            if held.key.same(&key) {
-                held.assignment = assignment;
-                return Ok(());
-            }
+        match self.held.iter_mut().find(|held| held.key.same(&key)) {
+            Some(held) => held.assignment = assignment,
+            None => self.held.push(Held { key, assignment })?,
         }
-        self.held.push(Held { key, assignment })?;
         Ok(())
     }
 }

@@ -1,4 +1,4 @@
-// The script of a morning: the lines of its table as the stock and the calls that a pool is given.
+// The script of a morning: the lines of its table as the plan, the stock and the calls that a pool is given.
 use super::scenes::SCENES;
 use crate::faults::Fault;
 use calls::call::Call;
@@ -10,7 +10,9 @@ use messages::assignments::Assignment;
 use messages::refusals::Refusal;
 use messages::requests::Request;
 use rules::board::PauseBoard;
+use rules::plan::Plan;
 use std::alloc::Global;
+use std::collections::BTreeMap;
 
 pub(crate) const ZONES: usize = 4;
 
@@ -47,67 +49,58 @@ pub(crate) enum Line {
     LetGo(u8, u64),
 }
 
-// What a pool is given: the stock to load, and the calls.
+// What a pool is given: its plan, the stock to load, and the calls.
 #[derive(Drop)]
 pub(crate) struct Day<K> {
+    pub(crate) plan: Plan,
     pub(crate) stock: Vec<Stock<K>>,
     pub(crate) calls: Vec<Call<K>>,
-}
-
-// Words that stand before a call.
-#[derive(Clone, Copy)]
-pub(crate) struct Title {
-    pub(crate) before: usize,
-    pub(crate) text: &'static str,
 }
 
 #[derive(Drop)]
 pub(crate) struct Script {
     pub(crate) day: Day<GroupNumber>,
-    pub(crate) titles: Vec<Title>,
+    // words that stand before a call, by how many calls stand before them
+    pub(crate) titles: BTreeMap<usize, &'static str>,
     board: PauseBoard,
 }
 
 // The whole table.
 pub(crate) fn morning(heap: Global) -> Result<Script, Fault> {
     let day = Day {
+        plan: Plan::new(ZONES as u8, PLACES as u8, 101)?,
         stock: Vec::new(heap),
         calls: Vec::new(heap),
     };
     let mut script = Script {
         day,
-        titles: Vec::new(heap),
+        titles: BTreeMap::new(heap),
         board: PauseBoard::new(),
     };
-    for scene in SCENES.iter() {
-        script.add_scene(scene)?;
+    for scene in SCENES {
+        for line in scene {
+            script.add(*line)?;
+        }
     }
     Ok(script)
 }
 
 impl Script {
-    fn add_scene(&mut self, lines: &[Line]) -> Result<(), Fault> {
-        for line in lines {
-            self.add(*line)?;
-        }
-        Ok(())
-    }
-
     fn add(&mut self, line: Line) -> Result<(), Fault> {
         match line {
             Line::Title(text) => self.add_title(text),
-            Line::Load(zone, group, chute, wave) => self.add_load(
+            Line::Load(zone, group, chute, wave) => self.add_stock(Stock {
                 zone,
-                group,
-                Assignment::new(chute, wave)?,
-            ),
+                key: GroupNumber::new(group),
+                assignment: Assignment::new(chute, wave)?,
+            }),
             Line::Pause(zone) => Ok(self.board.mark(zone, true)),
             Line::Resume(zone) => Ok(self.board.mark(zone, false)),
             Line::Start(zone, group, wish) => {
                 self.add_call(Call::Start {
                     zone,
                     key: GroupNumber::new(group),
-                    request: request(wish)?,
+                    request: wish.try_into()?,
                     board: self.board,
                 })
             }
@@ -124,19 +117,12 @@ impl Script {
     }
 
     fn add_title(&mut self, text: &'static str) -> Result<(), Fault> {
-        self.titles.push(Title {
-            before: self.day.calls.len(),
-            text,
-        })?;
+        self.titles.insert(self.day.calls.len(), text)?;
         Ok(())
     }
 
-    fn add_load(&mut self, zone: u8, group: u64, assignment: Assignment) -> Result<(), Fault> {
-        self.day.stock.push(Stock {
-            zone,
-            key: GroupNumber::new(group),
-            assignment,
-        })?;
+    fn add_stock(&mut self, item: Stock<GroupNumber>) -> Result<(), Fault> {
+        self.day.stock.push(item)?;
         Ok(())
     }
 
@@ -146,13 +132,21 @@ impl Script {
     }
 }
 
-fn request(wish: Wish) -> Result<Request, Refusal> {
-    Ok(match wish {
-        Wish::CarbonCopy => Request::CarbonCopy,
-        Wish::Put(chute, wave) => Request::Put(Assignment::new(chute, wave)?),
-        Wish::GetIfAnyAndPut(chute, wave) => Request::GetIfAnyAndPut(Assignment::new(chute, wave)?),
-        Wish::GetAndPutIfAny(chute, wave) => Request::GetAndPutIfAny(Assignment::new(chute, wave)?),
-        Wish::GetIfAny => Request::GetIfAny,
-        Wish::Remove => Request::Remove,
-    })
+impl TryFrom<Wish> for Request {
+    type Error = Refusal;
+
+    fn try_from(wish: Wish) -> Result<Request, Refusal> {
+        Ok(match wish {
+            Wish::CarbonCopy => Request::CarbonCopy,
+            Wish::Put(chute, wave) => Request::Put(Assignment::new(chute, wave)?),
+            Wish::GetIfAnyAndPut(chute, wave) => Request::GetIfAnyAndPut(Assignment::new(
+                chute, wave,
+            )?),
+            Wish::GetAndPutIfAny(chute, wave) => Request::GetAndPutIfAny(Assignment::new(
+                chute, wave,
+            )?),
+            Wish::GetIfAny => Request::GetIfAny,
+            Wish::Remove => Request::Remove,
+        })
+    }
 }

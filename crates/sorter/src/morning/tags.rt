@@ -16,37 +16,29 @@ fn tag(group: GroupNumber, reprint: u8) -> CageTag {
     )
 }
 
+// Each call has its tag printed anew, with the next reprint number.
 pub(crate) fn tagged(day: &Day<GroupNumber>, heap: Global) -> Result<Day<CageTag>, Fault> {
     Ok(Day {
-        stock: tagged_stock(&day.stock, heap)?,
-        calls: tagged_calls(&day.calls, heap)?,
+        plan: day.plan,
+        stock: day
+            .stock
+            .iter()
+            .map(|item| tagged_stock(*item))
+            .collect(heap)?,
+        calls: (1..=u8::MAX)
+            .cycle()
+            .zip(day.calls.iter())
+            .map(|(reprint, call)| tagged_call(*call, reprint))
+            .collect(heap)?,
     })
 }
 
-fn tagged_stock(
-    stock: &Vec<Stock<GroupNumber>>,
-    heap: Global,
-) -> Result<Vec<Stock<CageTag>>, Fault> {
-    let mut tagged = Vec::new(heap);
-    for item in stock.iter() {
-        tagged.push(Stock {
-            zone: item.zone,
-            key: tag(item.key, 0),
-            assignment: item.assignment,
-        })?;
+fn tagged_stock(item: Stock<GroupNumber>) -> Stock<CageTag> {
+    Stock {
+        zone: item.zone,
+        key: tag(item.key, 0),
+        assignment: item.assignment,
     }
-    Ok(tagged)
-}
-
-// Each call has its tag printed anew, with the next reprint number.
-fn tagged_calls(calls: &Vec<Call<GroupNumber>>, heap: Global) -> Result<Vec<Call<CageTag>>, Fault> {
-    let mut reprint = 0u8;
-    let mut tagged = Vec::new(heap);
-    for call in calls.iter() {
-        reprint = reprint.wrapping_add(1);
-        tagged.push(tagged_call(*call, reprint))?;
-    }
-    Ok(tagged)
 }
 
 fn tagged_call(call: Call<GroupNumber>, reprint: u8) -> Call<CageTag> {

@@ -1,7 +1,6 @@
 // Calls and results as they are printed: a line for each call.
 use super::script::{Outcome, Script};
 use crate::faults::Fault;
-use crate::words;
 use calls::call::Call;
 use calls::faults::Fault as PoolFault;
 use calls::reports::Report;
@@ -11,13 +10,11 @@ use std::fmt;
 
 pub(crate) fn tell_stock(rt: &HostRuntime, script: &Script) -> Result<(), Fault> {
     for item in script.day.stock.iter() {
-        let assignment = item.assignment;
         println!(rt;
-            "   load         zone {} group {} {}/{}",
+            "   load         zone {} group {} {}",
             item.zone,
             item.key.number(),
-            assignment.chute(),
-            assignment.wave()
+            item.assignment
         )?;
     }
     Ok(())
@@ -27,8 +24,8 @@ pub(crate) fn tell_stock(rt: &HostRuntime, script: &Script) -> Result<(), Fault>
 pub(crate) fn tell_calls(
     rt: &HostRuntime,
     script: &Script,
-    results: &Vec<Outcome>,
-    central: &Vec<Option<Answer>>,
+    results: &[Outcome],
+    central: &[Option<Answer>],
 ) -> Result<(), Fault> {
     let told = script
         .day
@@ -37,59 +34,41 @@ pub(crate) fn tell_calls(
         .zip(results.iter())
         .zip(central.iter());
     for (at, ((call, outcome), answer)) in told.enumerate() {
-        tell_title(rt, script, at)?;
-        tell_call(
-            rt,
-            *call,
-            OutcomeWords {
-                outcome: *outcome,
-                central: *answer,
-            },
-        )?;
-    }
-    Ok(())
-}
-
-fn tell_title(rt: &HostRuntime, script: &Script, at: usize) -> Result<(), Fault> {
-    for title in script.titles.iter() {
-        if title.before == at {
-            println!(rt; "-- {}", title.text)?;
+        if let Some(title) = script.titles.get(&at) {
+            println!(rt; "-- {title}")?;
         }
+        let outcome = OutcomeWords {
+            outcome: *outcome,
+            central: *answer,
+        };
+        tell_call(rt, CallWords(*call), outcome)?;
     }
     Ok(())
 }
 
-fn tell_call(
-    rt: &HostRuntime,
-    call: Call<GroupNumber>,
-    outcome: OutcomeWords,
-) -> Result<(), Fault> {
-    let called = format!(in rt.alloc(); "{}", CallWords { call })?;
+fn tell_call(rt: &HostRuntime, call: CallWords, outcome: OutcomeWords) -> Result<(), Fault> {
+    let called = format!(in rt.alloc(); "{call}")?;
     println!(rt; "   {called:54} {outcome}")?;
     Ok(())
 }
 
+// A call in columns.
 #[derive(Clone, Copy)]
-struct CallWords {
-    call: Call<GroupNumber>,
-}
+struct CallWords(Call<GroupNumber>);
 
 impl fmt::Display for CallWords {
     fn fmt<W: fmt::Write>(&self, f: &mut fmt::Formatter<W>) -> fmt::Result {
-        match self.call {
+        match self.0 {
             Call::Start {
                 zone,
                 key,
                 request,
-                board: _,
-            } => {
-                write!(
-                    f,
-                    "start        zone {zone} group {} {}",
-                    key.number(),
-                    words::of_request(request)
-                )
-            }
+                ..
+            } => write!(
+                f,
+                "start        zone {zone} group {} {request}",
+                key.number()
+            ),
             Call::DeliverUp { zone } => write!(f, "deliver up   zone {zone}"),
             Call::DeliverDown { zone } => write!(f, "deliver down zone {zone}"),
             Call::TakeUp { key } => write!(f, "take-up             group {}", key.number()),
@@ -131,17 +110,12 @@ fn show_report<W: fmt::Write>(
         write!(f, ", settled {number}")?;
     }
     if let Some(answered) = report.answered {
-        write!(
-            f,
-            ", answered {} {}",
-            answered.number,
-            words::of_answer(answered.answer)
-        )?;
+        write!(f, ", answered {} {}", answered.number, answered.answer)?;
     }
-    match central {
-        Some(answer) => write!(f, " (central pool: {})", words::of_answer(answer)),
-        None => Ok(()),
+    if let Some(answer) = central {
+        write!(f, " (central pool: {answer})")?;
     }
+    Ok(())
 }
 
 fn show_fault<W: fmt::Write>(fault: PoolFault, f: &mut fmt::Formatter<W>) -> fmt::Result {
@@ -152,22 +126,5 @@ fn show_fault<W: fmt::Write>(fault: PoolFault, f: &mut fmt::Formatter<W>) -> fmt
     if let Some(place) = fault.place() {
         write!(f, " at place {place}")?;
     }
-    write!(f, ": {}", reason(fault.number()))
-}
-
-fn reason(number: u8) -> &'static str {
-    match number {
-        6 => "no such zone",
-        7 => "the zone is paused",
-        8 => "no place for the group",
-        9 => "the line waits",
-        10 => "the numbers are used up",
-        11 => "no room",
-        12 => "not a copy that another zone owns",
-        13 => "the group has no known place",
-        14 => "the lane is empty",
-        15 => "a request is being served",
-        16 => "no request waits",
-        _ => "a step out of place",
-    }
+    write!(f, ": {}", fault.refusal())
 }
