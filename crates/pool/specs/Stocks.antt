@@ -6,6 +6,7 @@ use Rattle.line.specs.declared.states.State.{State}
 use Rattle.line.specs.declared.states.State.TheVariants.{Invalid, Exclusive, SharedOwned, SharedUnowned, WaitingExclusion, WaitingExclusionIfAny, WaitingPurge, WaitingSharedData, WaitingExclusiveData, WaitingExclusiveDataIfAny, WaitingPurgeData}
 use Rattle.directory.specs.Directory.{view_of, directory}
 use Rattle.transport.specs.Lanes.{all_empty}
+use Rattle.transport.specs.declared.interface.Transport as transport
 use Rattle.keys.specs.Places.{place_given, keys_after}
 use Rattle.rules.specs.declared.plan.Plan.{Plan}
 use Rattle.calls.specs.declared.stock.Stock.{Stock}
@@ -16,7 +17,7 @@ use Rattle.calls.specs.Opening.{Load}
 use Rattle.pool.specs.declared.loading.Loading.{Loading}
 
 -- the pool that opening makes of it: the lanes empty, the first number next
-abbrev pub opens_as : {T : Type 0} → Loading T → Model
+abbrev pub opens_as : {T : Type 0} {t : transport.Ghosts T} → Loading T t → Model
 opens_as p =
     record {
       plan = p.plan;

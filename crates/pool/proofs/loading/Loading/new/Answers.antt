@@ -12,7 +12,7 @@ use Rattle.pool.proofs.loading.Loading.new.Goals as goal
 pub invariant_of-result : goal.invariant_of-result
 invariant_of-result g c =
     let made = c.unloaded.ensures in
-    record { tidy_rows = fresh_rows _ made.rows; tidy_lines = fresh_lines _ _ made.slots made.rows }
+    record { lanes_empty = c.clear.ensures; tidy_rows = fresh_rows _ made.rows; tidy_lines = fresh_lines _ _ made.slots made.rows }
 
 pub returns : goal.returns
 returns g c =

@@ -11,11 +11,11 @@ use Rattle.pool.proofs.loading.Loading.open.Goals as goal
 pub returns : goal.returns
 returns g c =
     let old = c.args.self in
-    let m = model_of g.T.Transport (record { plan = old.plan; transport = c.clear.new.self; tables = old.tables; next = c.first_number.result }) in
+    let m = model_of g.T.Transport (record { plan = old.plan; transport = old.transport; tables = old.tables; next = c.first_number.result }) in
     let next = c.first_number.ensures in
-    let as_loaded = just_opened m c.clear.ensures old.tables.many_slots (length-map old.tables.rows view_of ∙ old.tables.many_rows) next old.tidy_rows old.tidy_lines in
+    let as_loaded = just_opened m old.lanes_empty old.tables.many_slots (length-map old.tables.rows view_of ∙ old.tables.many_rows) next old.tidy_rows old.tidy_lines in
     record {
-      model = same_lanes old.plan old.tables.slots _ old.tables.counts c.clear.ensures next;
+      model = same_lanes old.plan old.tables.slots _ old.tables.counts old.lanes_empty next;
       as_loaded = as_loaded;
       law = lawful g.T.Transport.room m (loads_in m) as_loaded;
     }
