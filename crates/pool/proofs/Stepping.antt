@@ -1,5 +1,5 @@
 -- What a step that was foreseen comes to.
-use Rattle.std.proofs.Common.{◌≡◌, ℕ, Ok, Err, Option, Result, sym, ap, ◌∙◌}
+use Rattle.std.proofs.Common.{◌≡◌, ℕ, Ok, Err, Option, Result, sym, ap}
 use Rattle.messages.specs.declared.kinds.Up.{Up}
 use Rattle.messages.specs.declared.requests.Answer.{Answer}
 use Rattle.messages.specs.Refusals.{Facts}

@@ -3,7 +3,7 @@ use Rattle.std.specs.Prelude.{ℕ, ◌+◌, ◌*◌, cond, List, [], ◌∷◌, 
 use Rattle.messages.specs.declared.assignments.Assignment.{Assignment}
 use Rattle.messages.specs.Refusals.{Facts}
 use Rattle.line.specs.declared.states.State.{State}
-use Rattle.line.specs.declared.states.State.TheVariants.{Invalid, Exclusive, SharedOwned, SharedUnowned, WaitingExclusion, WaitingExclusionIfAny, WaitingPurge, WaitingSharedData, WaitingExclusiveData, WaitingExclusiveDataIfAny, WaitingPurgeData}
+use Rattle.line.specs.declared.states.State.TheVariants.{Exclusive}
 use Rattle.directory.specs.Directory.{view_of, directory}
 use Rattle.transport.specs.Lanes.{all_empty}
 use Rattle.transport.specs.declared.interface.Transport as transport
@@ -99,16 +99,7 @@ load_all meaning size m ks (x ∷ xs) = then_load (load_one meaning size m ks x)
 -- by a zone's line
 abbrev pub held_by : ℕ → State → Load
 held_by zone (Exclusive copy) = Some (zone, copy)
-held_by zone Invalid = None
-held_by zone (SharedOwned copy) = None
-held_by zone (SharedUnowned copy) = None
-held_by zone (WaitingExclusion w copy) = None
-held_by zone (WaitingExclusionIfAny new copy) = None
-held_by zone (WaitingPurge p copy) = None
-held_by zone WaitingSharedData = None
-held_by zone (WaitingExclusiveData w) = None
-held_by zone (WaitingExclusiveDataIfAny new) = None
-held_by zone (WaitingPurgeData p) = None
+held_by zone _ = None
 
 -- by a cache list and what each zone's line is
 abbrev pub load_by : (ℕ → State) → List ℕ → Load

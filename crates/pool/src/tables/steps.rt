@@ -82,10 +82,7 @@ impl Tables {
             line: Line::loaded(assignment),
             number: 0,
         };
-        match Record::loaded(zone.number()) {
-            Ok(loaded) => self.keep(place, loaded),
-            Err(_) => unreachable(),
-        }
+        self.keep(place, Record::loaded(zone.number()).unwrap());
     }
 
     // A zone's line for a place, with the number of its last request.
@@ -132,11 +129,7 @@ impl Tables {
     pub(crate) fn record(&self, place: Place) -> Record
         ensures { view_of result.row ≡ slice_index_or (map view_of self.now.rows) place fresh_row }
     {
-        let row = self.rows[usize::from(place.number())];
-        match Record::from_row(row) {
-            Some(record) => record,
-            None => unreachable(),
-        }
+        Record::from_row(self.rows[usize::from(place.number())]).unwrap()
     }
 
     // Writes a record back as the row of its place.

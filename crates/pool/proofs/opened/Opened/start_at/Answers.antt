@@ -1,4 +1,4 @@
-use Rattle.std.proofs.Common.{◌≡◌, true, refl, sym, ◌∙◌, arith, rules}
+use Rattle.std.proofs.Common.{◌≡◌, true, refl, arith, rules}
 use Rattle.line.specs.Requested.{requested}
 use Rattle.calls.specs.Model.{state_at}
 use Rattle.calls.specs.Sending.{up_admits}
