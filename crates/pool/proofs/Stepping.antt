@@ -29,6 +29,9 @@ module _ (room : Rule) (m : Model) (zone place : ℕ) where
   pub start_goes_on : (o : Outcome) (e : Effect) → effect_seen (Ok e) ≡ effect_in zone o → start_by room m zone place o ≡ start_by room m zone place (moved e.sent e.answer (state_in o))
   start_goes_on = goes_on zone (start_by room m zone place) (λ n l. refl)
 
+  pub start_stops : (o : Outcome) (f : Fault) → effect_seen (Err f) ≡ effect_in zone o → start_by room m zone place o ≡ Err (facts_of f)
+  start_stops = stops zone (start_by room m zone place) (λ n l. refl)
+
   pub down_goes_on : (o : Outcome) (e : Effect) → effect_seen (Ok e) ≡ effect_in zone o → down_by room m zone place o ≡ down_by room m zone place (moved e.sent e.answer (state_in o))
   down_goes_on = goes_on zone (down_by room m zone place) (λ n l. refl)
 

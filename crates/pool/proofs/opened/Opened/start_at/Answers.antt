@@ -3,8 +3,14 @@ use Rattle.line.specs.Requested.{requested}
 use Rattle.calls.specs.Model.{state_at}
 use Rattle.calls.specs.Sending.{up_admits}
 use Rattle.pool.specs.Pools.{model_of}
-use Rattle.pool.proofs.Stepping.{start_goes_on}
+use Rattle.pool.proofs.Stepping.{start_goes_on, start_stops}
 use Rattle.pool.proofs.opened.Opened.start_at.Goals as goal
+
+pub returns-in_err-effect-clause-outcome : goal.returns-in_err-effect-clause-outcome
+returns-in_err-effect-clause-outcome g c =
+    let m = model_of g.T.Transport c.args.self.now in
+    let stop = start_stops g.T.Transport.room m c.args.zone c.args.place (requested (state_at m c.args.zone c.args.place) c.args.request) _ c.in_err-effect.ensures in
+    search (rules, stop)
 
 pub returns-in_err-number-clause-outcome : goal.returns-in_err-number-clause-outcome
 returns-in_err-number-clause-outcome g c =
