@@ -126,6 +126,7 @@ impl Tables {
     }
 
     // The record of a row, after its check.
+    #[tactic(auto, using(crate::proofs::Rows::view_at, crate::proofs::Rows::found))]
     pub(crate) fn record(&self, place: Place) -> Record
         ensures { view_of result.row ≡ slice_index_or (map view_of self.now.rows) place fresh_row }
     {
@@ -133,6 +134,7 @@ impl Tables {
     }
 
     // Writes a record back as the row of its place.
+    #[tactic(auto, using(crate::proofs::Rows::set_view))]
     pub(crate) fn keep(&mut self, place: Place, kept: Record)
         ensures slots { self.new.slots ≡ self.old.slots }
         ensures rows { map view_of self.new.rows ≡ slice_set (map view_of self.old.rows) place (view_of kept.row) }
