@@ -1,7 +1,6 @@
 ghost use Rattle.std.specs.Prelude.{◌≡◌, map};
 ghost use Rattle.directory.specs.Directory.{view_of};
 ghost use Rattle.transport.specs.Lanes.{all_empty};
-ghost use Rattle.std.proofs.Props.{props};
 ghost use Rattle.pool.specs.Tidy.{TidyRows, TidyLines};
 
 use crate::tables::Tables;
@@ -17,7 +16,7 @@ pub struct Loading<T: Transport> {
     pub(crate) plan: Plan,
     pub(crate) transport: T,
     pub(crate) tables: Tables,
-    ghost lanes_empty: { T.waiting transport ≡ all_empty } by { Prim.hlevel props },
+    ghost lanes_empty: { T.waiting transport ≡ all_empty },
     ghost tidy_rows: { TidyRows (map view_of tables.rows) },
     ghost tidy_lines: { TidyLines tables.slots (map view_of tables.rows) },
 }

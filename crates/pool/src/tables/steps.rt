@@ -17,7 +17,7 @@ use messages::assignments::Assignment;
 use rules::plan::places::Place;
 use rules::plan::zones::Zone;
 
-// Where the line of a zone for a place stands.
+// Where the line of a zone for a place stands. The two are no struct: the model, the lanes and the faults take them apart.
 fn slot_index(zone: Zone, place: Place) -> usize
     ensures value { result ≡ zone * 32 + place }
     ensures below { result < 256 }
