@@ -5,7 +5,6 @@ pub mod Turns
 pub mod Tidiness
 pub mod Openings
 pub mod Loads
-pub mod Models
 pub mod Asking
 pub mod Stepping
 pub mod Ties

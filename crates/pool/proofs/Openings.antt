@@ -2,7 +2,7 @@
 use Rattle.std.proofs.Common.{◌≡◌, ℕ, ◌<◌, true, false, eqb, ltb, List, [], ◌∷◌, length, Some, None, Option, sym, refl, ap, ◌∙◌, ⊎_elim}
 use Rattle.std.proofs.lemmas.Bool.{cases_eq, cond-true, cond-false, eq-eqb, ne_eqb, ltb-true, and_parts, false≢true}
 use Rattle.line.specs.declared.states.State.{State}
-use Rattle.line.specs.declared.states.State.TheVariants.{Invalid, Exclusive, SharedOwned, SharedUnowned, WaitingExclusion, WaitingExclusionIfAny, WaitingPurge, WaitingSharedData, WaitingExclusiveData, WaitingExclusiveDataIfAny, WaitingPurgeData}
+use Rattle.line.specs.declared.states.State.TheVariants.{Invalid, Exclusive}
 use Rattle.directory.specs.declared.rows.Waiting.{Waiting}
 use Rattle.directory.specs.declared.rows.Served.{Served}
 use Rattle.directory.specs.Directory.{Directory, directory}
@@ -14,16 +14,7 @@ use Rattle.pool.specs.Stocks.{held_by, load_by, loads_in}
 
 invalid : (l : State) → is_invalid l ≡ true → l ≡ Invalid
 invalid Invalid e = refl
-invalid (Exclusive a) e = absurd (false≢true e)
-invalid (SharedOwned a) e = absurd (false≢true e)
-invalid (SharedUnowned a) e = absurd (false≢true e)
-invalid (WaitingExclusion w c) e = absurd (false≢true e)
-invalid (WaitingExclusionIfAny a c) e = absurd (false≢true e)
-invalid (WaitingPurge p c) e = absurd (false≢true e)
-invalid WaitingSharedData e = absurd (false≢true e)
-invalid (WaitingExclusiveData w) e = absurd (false≢true e)
-invalid (WaitingExclusiveDataIfAny a) e = absurd (false≢true e)
-invalid (WaitingPurgeData p) e = absurd (false≢true e)
+invalid _ e = absurd (false≢true e)
 
 record Placed (d : Directory) (states : ℕ → State) (load : Load) : Type 0 where
   below : ZoneBelow load
@@ -44,16 +35,7 @@ module _ (states : ℕ → State) where
             invalid (states zone) (sym (cond-false (eqb zone z) (is_exclusive (states zone)) (is_invalid (states zone)) off) ∙ tidy zone h) ∙ sym (cond-false (eqb zone z) (Exclusive a) Invalid off))
             (cases_eq zone z);
       }
-  alone z Invalid is e below tidy = absurd (false≢true e)
-  alone z (SharedOwned a) is e below tidy = absurd (false≢true e)
-  alone z (SharedUnowned a) is e below tidy = absurd (false≢true e)
-  alone z (WaitingExclusion w c) is e below tidy = absurd (false≢true e)
-  alone z (WaitingExclusionIfAny a c) is e below tidy = absurd (false≢true e)
-  alone z (WaitingPurge p c) is e below tidy = absurd (false≢true e)
-  alone z WaitingSharedData is e below tidy = absurd (false≢true e)
-  alone z (WaitingExclusiveData w) is e below tidy = absurd (false≢true e)
-  alone z (WaitingExclusiveDataIfAny a) is e below tidy = absurd (false≢true e)
-  alone z (WaitingPurgeData p) is e below tidy = absurd (false≢true e)
+  alone z _ is e below tidy = absurd (false≢true e)
 
   placed : (list : List ℕ) (ws : List Waiting) (served : Option Served) → tidy_row (directory list ws served) ≡ true → ((zone : ℕ) → zone < 8 → tidy_line list zone (states zone) ≡ true) → Placed (directory list ws served) states (load_by states list)
   placed [] [] None t tidy = record { below = tt; row = refl; lines = λ zone h. invalid (states zone) (tidy zone h) }

@@ -1,9 +1,11 @@
 -- Rows of the table, by their views.
-use Rattle.std.proofs.Common.{◌≡◌, ℕ, ◌<◌, Bool, true, false, cond, List, map, length, get_or, set, replicate, Some, None, sym, refl, ap, ◌∙◌, arith}
+use Rattle.std.proofs.Common.{◌≡◌, ℕ, ◌<◌, Bool, true, false, cond, List, map, length, get_or, set, replicate, Some, None, Option, sym, refl, ap, ◌∙◌, arith}
 use Rattle.std.proofs.lemmas.List.{map-set, get_or-map}
-use Rattle.std.proofs.lemmas.Bool.{false≢true}
+use Rattle.std.specs.Option.{IsSome}
+use Rattle.directory.specs.declared.records.Record.{Record}
 use Rattle.directory.specs.declared.rows.Row.{Row}
 use Rattle.directory.specs.Directory.{Directory, view_of}
+use Rattle.directory.specs.Records.{row_in}
 use Rattle.directory.specs.Sound.{sound}
 use Rattle.calls.specs.Model.{fresh_row}
 use Rattle.pool.specs.Rows.{SoundRows}
@@ -23,14 +25,18 @@ set_view rows at row row' e = map-set view_of rows at row ∙ ap (λ (x : Row). 
 passed : (r row : Row) (b : Bool) → Some r ≡ cond b (Some row) None → r ≡ row
 passed r row b e = grind arith
 
-not_stopped : (row : Row) (b : Bool) → b ≡ true → None ≡ cond b (Some row) None → ⊥
-not_stopped row true e is = let z : ◌≡◌ {A = ℕ} 0 1 = cc in omega arith
-not_stopped row false e is = false≢true e
+found_in : (o : Option Record) (row : Row) (b : Bool) → b ≡ true → row_in o ≡ cond b (Some row) None → IsSome o
+found_in (Some x) row b t e = refl
+found_in None row true t e = cc
+found_in None row false t e = cc
 
--- the row at a place, read at any default
-module _ (rows : List Row) (place : ℕ) (d : Row) (h : place < length rows) where
-  pub view_at : (r : Row) → Some r ≡ cond (sound (view_of (get_or rows place d))) (Some (get_or rows place d)) None → view_of r ≡ get_or (map view_of rows) place fresh_row
-  view_at r e = ap view_of (passed r (get_or rows place d) _ e) ∙ sym (get_or-map view_of rows place d fresh_row h)
+-- the record of the row at a place, read at any default
+module _ (rows : List Row) (place : ℕ) (d : Row) (h : place < length rows) (o : Option Record) (e : row_in o ≡ cond (sound (view_of (get_or rows place d))) (Some (get_or rows place d)) None) where
+  here : view_of (get_or rows place d) ≡ get_or (map view_of rows) place fresh_row
+  here = sym (get_or-map view_of rows place d fresh_row h)
 
-  pub unsound_none : SoundRows (map view_of rows) → None ≡ cond (sound (view_of (get_or rows place d))) (Some (get_or rows place d)) None → ⊥
-  unsound_none ok e = not_stopped (get_or rows place d) _ (ap sound (sym (get_or-map view_of rows place d fresh_row h)) ∙ ok place) e
+  pub view_at : (x : Record) → o ≡ Some x → view_of x.row ≡ get_or (map view_of rows) place fresh_row
+  view_at x is = ap view_of (passed x.row (get_or rows place d) _ (ap row_in (sym is) ∙ e)) ∙ here
+
+  pub found : SoundRows (map view_of rows) → IsSome o
+  found ok = found_in o (get_or rows place d) _ (ap sound here ∙ ok place) e

@@ -81,12 +81,6 @@ module _ (m : Model) (zone place : ℕ) (a : Assignment) (many_slots : length m.
 
 -- ── one load keeps the tie ──
 
-some_same : {X : Type 0} (x y : X) → Some x ≡ Some y → x ≡ y
-some_same x y e = cc
-
-some_not_none : {X : Type 0} (x : X) → Some x ≡ None → ⊥
-some_not_none x e = let z : ◌≡◌ {A = ℕ} 0 1 = cc in omega arith
-
 key_there : (ks : List (List ℕ)) (size : ℕ) (key : List ℕ) (p : ℕ) → Given ks size key p → key_at (keys_after (λ k. k) ks size key) p ≡ Some key
 key_there ks size key p (known e same) = ap (λ (xs : List (List ℕ)). key_at xs p) same ∙ place_is_at ks key p e
 key_there ks size key p (next e is more) = ap (λ (xs : List (List ℕ)). key_at xs p) more ∙ key_at_push_last ks key p is
@@ -122,21 +116,24 @@ module _ (plan : Plan) (m : Model) (ks : List (List ℕ)) (values : List ℕ →
   -- the key that was loaded is at its place, and no other is
   at_place : (k : List ℕ) (q : ℕ) → key_at ks' q ≡ Some k → bytes_eq k key ≡ true → q ≡ place
   at_place k q at same =
-      some_same q place (sym (at_is_place ks' key q apart' (at ∙ ap (λ (x : List ℕ). Some x) (same_key k key same))) ∙ at_is_place ks' key place apart' (key_there ks size key place g))
+      let here = at_is_place ks' key place apart' (key_there ks size key place g) in
+      let there = at_is_place ks' key q apart' (at ∙ ap (λ (x : List ℕ). Some x) (same_key k key same)) in
+      cc
 
   known_here : (k : List ℕ) (q : ℕ) → place_of (λ k. k) ks' k ≡ Some q → (b : Bool) → bytes_eq k key ≡ b → cond b (Some a) (values k) ≡ loaded_value (loads_in m' q)
   known_here k q e true same =
       sym (ap (λ (n : ℕ). loaded_value (loads_in m' n)) (at_place k q (place_is_at ks' k q e) same) ∙ ap loaded_value here)
   known_here k q e false other =
       let ne : q ≡ place → ⊥ = λ w.
-      other_key k key other (some_same k key (sym (place_is_at ks' k q e) ∙ ap (λ (n : ℕ). key_at ks' n) w ∙ key_there ks size key place g)) in
+      let one : ◌≡◌ {A = Option (List ℕ)} (Some k) (Some key) = sym (place_is_at ks' k q e) ∙ ap (λ (n : ℕ). key_at ks' n) w ∙ key_there ks size key place g in
+      other_key k key other cc in
       let old : place_of (λ k. k) ks k ≡ Some q = at_is_place ks k q s.tied.apart (sym (keys_elsewhere ks size key place q g ne) ∙ place_is_at ks' k q e) in
       s.tied.known k q old ∙ ap loaded_value (sym (elsewhere q ne))
 
   not_known : (k : List ℕ) → place_of (λ k. k) ks' k ≡ None → (o : Option ℕ) → place_of (λ k. k) ks k ≡ o → place_of (λ k. k) ks k ≡ None
   unfolding PlacesStay
   not_known k e None is = is
-  not_known k e (Some q) is = absurd (some_not_none q (sym (places_stay (λ k. k) ks size key k q is) ∙ e))
+  not_known k e (Some q) is = let both : Some q ≡ None = sym (places_stay (λ k. k) ks size key k q is) ∙ e in cc
 
   unknown_here : (k : List ℕ) → place_of (λ k. k) ks' k ≡ None → (b : Bool) → bytes_eq k key ≡ b → cond b (Some a) (values k) ≡ None
   unknown_here k e true same =
@@ -168,29 +165,26 @@ record Accepted (m : Model) (zone : ℕ) (o : Option ℕ) (place : ℕ) : Type 0
   place_ok : place < m.plan.places
   place_is : o ≡ Some place
 
-not_ok : (f : Facts) (p : ℕ) → Err f ≡ Ok p → ⊥
-not_ok f p e = let z : ◌≡◌ {A = ℕ} 0 1 = cc in omega arith
-
 free_is : (zone place p : ℕ) (list : List ℕ) → load_free zone place list ≡ Ok p → place ≡ p
 free_is zone place p [] e = cc
-free_is zone place p (z ∷ zs) e = absurd (not_ok _ p e)
+free_is zone place p (z ∷ zs) e = cc
 
 accepted_in : (m : Model) (zone : ℕ) (o : Option ℕ) (p : ℕ) (zone_ok : zone < m.plan.zones) → load_in m zone o ≡ Ok p → Accepted m zone o p
-accepted_in m zone None p zone_ok e = absurd (not_ok _ p e)
+accepted_in m zone None p zone_ok e = cc
 accepted_in m zone (Some place) p zone_ok e = go (ltb place m.plan.places) refl e
   where
     go : (b : Bool) → ltb place m.plan.places ≡ b → cond b (load_free zone place (row_at m place).list) (Err (about_zone 8 zone)) ≡ Ok p → Accepted m zone (Some place) p
     go true t e =
         let is : place ≡ p = free_is zone place p (row_at m place).list e in
         record { zone_ok = zone_ok; place_ok = omega (arith, ltb-true place m.plan.places t); place_is = ap (λ (n : ℕ). Some n) is }
-    go false t e = absurd (not_ok _ p e)
+    go false t e = cc
 
 accepted : (m : Model) (zone : ℕ) (o : Option ℕ) (p : ℕ) → load_place m zone o ≡ Ok p → Accepted m zone o p
 accepted m zone o p e = go (ltb zone m.plan.zones) refl e
   where
     go : (b : Bool) → ltb zone m.plan.zones ≡ b → cond b (load_in m zone o) (Err (about_zone 6 zone)) ≡ Ok p → Accepted m zone o p
     go true t e = accepted_in m zone o p (ltb-true zone m.plan.zones t) e
-    go false t e = absurd (not_ok _ p e)
+    go false t e = cc
 
 module _ {K : Type 0} (meaning : K → List ℕ) (size : ℕ) (plan : Plan) where
   abbrev pub StockedIn : LoadOutcome K → (List ℕ → Option Assignment) → Type 0

@@ -4,6 +4,7 @@ use Rattle.messages.specs.declared.kinds.Kind.{Kind}
 use Rattle.messages.specs.declared.kinds.Message.{Message}
 use Rattle.messages.specs.Refusals.{Facts}
 use Rattle.rules.specs.declared.plan.Plan.{Plan}
+use Rattle.rules.specs.Plans.{place_in}
 use Rattle.calls.specs.Faults.{about_zone}
 
 -- a zone of the plan, or 6
@@ -13,7 +14,7 @@ zone_named plan zone = cond (nat_lt zone plan.zones) (Ok zone) (Err (about_zone 
 -- a place of the plan
 abbrev pub place_named : Plan → Option ℕ → Option ℕ
 place_named plan None = None
-place_named plan (Some place) = cond (nat_lt place plan.places) (Some place) None
+place_named plan (Some place) = place_in plan place
 
 -- the place and the kind of a zone's message; 14 where its lane is empty, 17 where the place is above 31
 abbrev pub due : ℕ → Option Message → Result (ℕ × Kind) Facts

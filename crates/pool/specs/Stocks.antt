@@ -3,9 +3,10 @@ use Rattle.std.specs.Prelude.{ℕ, ◌+◌, ◌*◌, cond, List, [], ◌∷◌, 
 use Rattle.messages.specs.declared.assignments.Assignment.{Assignment}
 use Rattle.messages.specs.Refusals.{Facts}
 use Rattle.line.specs.declared.states.State.{State}
-use Rattle.line.specs.declared.states.State.TheVariants.{Invalid, Exclusive, SharedOwned, SharedUnowned, WaitingExclusion, WaitingExclusionIfAny, WaitingPurge, WaitingSharedData, WaitingExclusiveData, WaitingExclusiveDataIfAny, WaitingPurgeData}
+use Rattle.line.specs.declared.states.State.TheVariants.{Exclusive}
 use Rattle.directory.specs.Directory.{view_of, directory}
 use Rattle.transport.specs.Lanes.{all_empty}
+use Rattle.transport.specs.declared.interface.Transport as transport
 use Rattle.keys.specs.Places.{place_given, keys_after}
 use Rattle.rules.specs.declared.plan.Plan.{Plan}
 use Rattle.calls.specs.declared.stock.Stock.{Stock}
@@ -16,7 +17,7 @@ use Rattle.calls.specs.Opening.{Load}
 use Rattle.pool.specs.declared.loading.Loading.{Loading}
 
 -- the pool that opening makes of it: the lanes empty, the first number next
-abbrev pub opens_as : {T : Type 0} → Loading T → Model
+abbrev pub opens_as : {T : Type 0} {t : transport.Ghosts T} → Loading T t → Model
 opens_as p =
     record {
       plan = p.plan;
@@ -98,16 +99,7 @@ load_all meaning size m ks (x ∷ xs) = then_load (load_one meaning size m ks x)
 -- by a zone's line
 abbrev pub held_by : ℕ → State → Load
 held_by zone (Exclusive copy) = Some (zone, copy)
-held_by zone Invalid = None
-held_by zone (SharedOwned copy) = None
-held_by zone (SharedUnowned copy) = None
-held_by zone (WaitingExclusion w copy) = None
-held_by zone (WaitingExclusionIfAny new copy) = None
-held_by zone (WaitingPurge p copy) = None
-held_by zone WaitingSharedData = None
-held_by zone (WaitingExclusiveData w) = None
-held_by zone (WaitingExclusiveDataIfAny new) = None
-held_by zone (WaitingPurgeData p) = None
+held_by zone _ = None
 
 -- by a cache list and what each zone's line is
 abbrev pub load_by : (ℕ → State) → List ℕ → Load

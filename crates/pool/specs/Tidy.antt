@@ -1,7 +1,7 @@
 -- Tables in which each place has what was loaded there, and nothing else.
 use Rattle.std.specs.Prelude.{◌≡◌, ℕ, ◌+◌, ◌*◌, ◌<◌, Bool, true, false, cond, not, ◌&&◌, List, [], ◌∷◌, is_some, ◌==◌, nat_lt, slice_index_or}
 use Rattle.line.specs.declared.states.State.{State}
-use Rattle.line.specs.declared.states.State.TheVariants.{Invalid, Exclusive, SharedOwned, SharedUnowned, WaitingExclusion, WaitingExclusionIfAny, WaitingPurge, WaitingSharedData, WaitingExclusiveData, WaitingExclusiveDataIfAny, WaitingPurgeData}
+use Rattle.line.specs.declared.states.State.TheVariants.{Invalid, Exclusive}
 use Rattle.directory.specs.Directory.{Directory}
 use Rattle.calls.specs.declared.slots.Slot.{Slot}
 use Rattle.calls.specs.Model.{blank_slot, fresh_row}
@@ -10,30 +10,12 @@ use Rattle.calls.specs.Questions.{none_wait}
 -- whether a line is in I
 abbrev pub is_invalid : State → Bool
 is_invalid Invalid = true
-is_invalid (Exclusive copy) = false
-is_invalid (SharedOwned copy) = false
-is_invalid (SharedUnowned copy) = false
-is_invalid (WaitingExclusion w copy) = false
-is_invalid (WaitingExclusionIfAny new copy) = false
-is_invalid (WaitingPurge p copy) = false
-is_invalid WaitingSharedData = false
-is_invalid (WaitingExclusiveData w) = false
-is_invalid (WaitingExclusiveDataIfAny new) = false
-is_invalid (WaitingPurgeData p) = false
+is_invalid _ = false
 
 -- whether a line is in E
 abbrev pub is_exclusive : State → Bool
-is_exclusive Invalid = false
 is_exclusive (Exclusive copy) = true
-is_exclusive (SharedOwned copy) = false
-is_exclusive (SharedUnowned copy) = false
-is_exclusive (WaitingExclusion w copy) = false
-is_exclusive (WaitingExclusionIfAny new copy) = false
-is_exclusive (WaitingPurge p copy) = false
-is_exclusive WaitingSharedData = false
-is_exclusive (WaitingExclusiveData w) = false
-is_exclusive (WaitingExclusiveDataIfAny new) = false
-is_exclusive (WaitingPurgeData p) = false
+is_exclusive _ = false
 
 -- at most one zone, below 8
 abbrev pub one_at_most : List ℕ → Bool

@@ -17,6 +17,7 @@ use std::alloc::{AllocError, Global};
 use transport::interface::Transport;
 
 impl<T: Transport> Opened<T> {
+    #[tactic(auto, using(crate::proofs::Turns::keyless, crate::proofs::Turns::refused_also))]
     pub fn call<K: Key + Copy>(
         &mut self,
         register: &mut Register<'_, K>,

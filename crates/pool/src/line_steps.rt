@@ -12,7 +12,7 @@ use messages::kinds::Kind;
 use messages::refusals::Refusal;
 use messages::requests::Request;
 
-// What a line can be lent to.
+// A step that a line is lent to. A trait and no closure, since a decision is a value that holds its step, and its outcome is known before.
 pub trait LineStep {
     // What the step comes to at a line.
     ghost outcome: { Self → State → Outcome };

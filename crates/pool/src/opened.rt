@@ -7,6 +7,6 @@ pub struct Opened<T> {
     pub(crate) plan: Plan,
     pub(crate) transport: T,
     pub(crate) tables: Tables,
-    // the number of the next accepted start, one past the largest once they are used up
+    // the number of the next accepted start, one past the largest once they are used up: no Option, since the model has a number
     pub(crate) next: u64,
 }

@@ -26,10 +26,9 @@ impl<T: Transport + Drop> Loading<T> {
     {
         let Loading {
             plan,
-            mut transport,
+            transport,
             tables,
         } = self;
-        transport.clear();
         Opened {
             plan,
             transport,

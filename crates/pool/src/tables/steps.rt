@@ -17,7 +17,7 @@ use messages::assignments::Assignment;
 use rules::plan::places::Place;
 use rules::plan::zones::Zone;
 
-// Where the line of a zone for a place stands.
+// Where the line of a zone for a place stands. The two are no struct: the model, the lanes and the faults take them apart.
 fn slot_index(zone: Zone, place: Place) -> usize
     ensures value { result ≡ zone * 32 + place }
     ensures below { result < 256 }
@@ -82,10 +82,7 @@ impl Tables {
             line: Line::loaded(assignment),
             number: 0,
         };
-        match Record::loaded(zone.number()) {
-            Ok(loaded) => self.keep(place, loaded),
-            Err(_) => unreachable(),
-        }
+        self.keep(place, Record::loaded(zone.number()).unwrap());
     }
 
     // A zone's line for a place, with the number of its last request.
@@ -129,17 +126,15 @@ impl Tables {
     }
 
     // The record of a row, after its check.
+    #[tactic(auto, using(crate::proofs::Rows::view_at, crate::proofs::Rows::found))]
     pub(crate) fn record(&self, place: Place) -> Record
         ensures { view_of result.row ≡ slice_index_or (map view_of self.now.rows) place fresh_row }
     {
-        let row = self.rows[usize::from(place.number())];
-        match Record::from_row(row) {
-            Some(record) => record,
-            None => unreachable(),
-        }
+        Record::from_row(self.rows[usize::from(place.number())]).unwrap()
     }
 
     // Writes a record back as the row of its place.
+    #[tactic(auto, using(crate::proofs::Rows::set_view))]
     pub(crate) fn keep(&mut self, place: Place, kept: Record)
         ensures slots { self.new.slots ≡ self.old.slots }
         ensures rows { map view_of self.new.rows ≡ slice_set (map view_of self.old.rows) place (view_of kept.row) }

@@ -8,13 +8,13 @@ use messages::refusals::Refusal;
 fn zones_fit(zones: u8) -> bool
     ensures { result ≡ zones_fit zones }
 {
-    2 <= zones && zones <= 8
+    (2..=8).contains(&zones)
 }
 
 fn places_fit(places: u8) -> bool
     ensures { result ≡ places_fit places }
 {
-    1 <= places && places <= 32
+    (1..=32).contains(&places)
 }
 
 impl Plan {
@@ -65,10 +65,7 @@ mod tests {
     use super::*;
 
     fn refused(zones: u8, places: u8, first_number: u32) -> Option<Refusal> {
-        match Plan::new(zones, places, first_number) {
-            Ok(_) => None,
-            Err(refusal) => Some(refusal),
-        }
+        Plan::new(zones, places, first_number).err()
     }
 
     #[test]

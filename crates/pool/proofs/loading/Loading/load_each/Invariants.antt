@@ -7,6 +7,8 @@ abbrev pub invariant-loop-item : goal.invariant-loop-item
 invariant-loop-item g l =
     let k = g.K.Key.meaning in
     let size = length (row_of l.initial.register) in
-    (load_all k size (opens_as l.self) (in_use l.register) (drop l.item-index l.stock) ≡ load_all k size (opens_as l.initial.self) (in_use l.initial.register) l.stock)
-    × RowKept l.initial.register l.register
-    × (g.T.Transport.waiting l.self.transport ≡ g.T.Transport.waiting l.initial.self.transport)
+    record {
+      left : load_all k size (opens_as l.self) (in_use l.register) (drop l.item-index l.stock) ≡ load_all k size (opens_as l.initial.self) (in_use l.initial.register) l.stock;
+      kept : RowKept l.initial.register l.register;
+      lanes : g.T.Transport.waiting l.self.transport ≡ g.T.Transport.waiting l.initial.self.transport;
+    }

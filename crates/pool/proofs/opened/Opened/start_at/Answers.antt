@@ -1,27 +1,32 @@
-use Rattle.std.proofs.Common.{◌≡◌, true, refl, sym, ◌∙◌, arith, rules}
+use Rattle.std.proofs.Common.{◌≡◌, true, arith, rules}
 use Rattle.line.specs.Requested.{requested}
 use Rattle.calls.specs.Model.{state_at}
 use Rattle.calls.specs.Sending.{up_admits}
-use Rattle.calls.specs.Zones.{start_by}
 use Rattle.pool.specs.Pools.{model_of}
-use Rattle.pool.proofs.Stepping.{goes_on}
+use Rattle.pool.proofs.Stepping.{start_goes_on, start_stops}
 use Rattle.pool.proofs.opened.Opened.start_at.Goals as goal
+
+pub returns-in_err-effect-clause-outcome : goal.returns-in_err-effect-clause-outcome
+returns-in_err-effect-clause-outcome g c =
+    let m = model_of g.T.Transport c.args.self.now in
+    let stop = start_stops g.T.Transport.room m c.args.zone c.args.place (requested (state_at m c.args.zone c.args.place) c.args.request) _ c.in_err-effect.ensures in
+    search (rules, stop)
 
 pub returns-in_err-number-clause-outcome : goal.returns-in_err-number-clause-outcome
 returns-in_err-number-clause-outcome g c =
     let m = model_of g.T.Transport c.args.self.now in
-    let step = goes_on c.args.zone (start_by g.T.Transport.room m c.args.zone c.args.place) (λ n l. refl) (requested (state_at m c.args.zone c.args.place) c.args.request) _ c.in_ok-effect.ensures in
+    let step = start_goes_on g.T.Transport.room m c.args.zone c.args.place (requested (state_at m c.args.zone c.args.place) c.args.request) _ c.in_ok-effect.ensures in
     search (rules, step)
 
 pub returns-in_err-admits_up-clause-outcome : goal.returns-in_err-admits_up-clause-outcome
 returns-in_err-admits_up-clause-outcome g c =
     let m = model_of g.T.Transport c.args.self.now in
-    let step = goes_on c.args.zone (start_by g.T.Transport.room m c.args.zone c.args.place) (λ n l. refl) (requested (state_at m c.args.zone c.args.place) c.args.request) _ c.in_ok-effect.ensures in
+    let step = start_goes_on g.T.Transport.room m c.args.zone c.args.place (requested (state_at m c.args.zone c.args.place) c.args.request) _ c.in_ok-effect.ensures in
     grind (arith, step)
 
 pub returns-clause-outcome : goal.returns-clause-outcome
 returns-clause-outcome g c =
     let m = model_of g.T.Transport c.args.self.now in
-    let step = goes_on c.args.zone (start_by g.T.Transport.room m c.args.zone c.args.place) (λ n l. refl) (requested (state_at m c.args.zone c.args.place) c.args.request) _ c.in_ok-effect.ensures in
+    let step = start_goes_on g.T.Transport.room m c.args.zone c.args.place (requested (state_at m c.args.zone c.args.place) c.args.request) _ c.in_ok-effect.ensures in
     let space : up_admits g.T.Transport.room m.lanes c.args.zone c.in_ok-effect.effect.sent ≡ true = search rules in
     grind (arith, step, space)
