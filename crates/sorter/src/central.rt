@@ -7,6 +7,7 @@ use messages::assignments::Assignment;
 use messages::central::{answer, key_after};
 use messages::requests::{Answer, Request};
 
+// Its zones are written by index after a test: nothing is known of an element that is written through `get_mut`.
 #[derive(Clone, Copy)]
 pub(crate) struct Central {
     held: Option<Assignment>,
