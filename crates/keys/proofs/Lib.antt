@@ -1,4 +1,3 @@
-pub mod Steps
 pub mod Promises
 pub mod ByMeaning
 pub mod Rows

@@ -1,9 +1,14 @@
 -- The promises on places, proved for every list of keys and every meaning.
-use Rattle.std.proofs.Common.{◌≡◌, ℕ, zero, suc, ◌+◌, ◌<◌, Bool, true, false, cond, ltb, List, [], ◌∷◌, ◌++◌, map, length, Some, None, Option, sym, refl, ap, ◌∙◌, ⊎_elim, arith}
+use Rattle.std.proofs.Common.{◌≡◌, ℕ, ◌+◌, ◌<◌, ◌≤◌, Bool, true, false, cond, ltb, List, [], ◌∷◌, ◌++◌, map, length, get_or, take, set, Some, None, Option, sym, refl, ap, ◌∙◌, ⊎_elim, arith}
 use Rattle.std.proofs.lemmas.Slice.Eq.{bytes_eq-Decides}
 use Rattle.std.proofs.lemmas.Bool.Decides.{not_from_Decides}
-use Rattle.std.proofs.lemmas.Bool.{cases_lt, cond_both}
-use Rattle.std.proofs.lemmas.List.{length_push, length-map, map_push, get_or_push, get_or_append_left}
+use Rattle.std.proofs.lemmas.Bool.{cases_lt, cond_both, cond_below}
+use Rattle.std.proofs.lemmas.List.{get_or-map, length_push, length-map, map_push, get_or_push, get_or_append_left, take_more_set}
+use Rattle.std.proofs.lemmas.List.Quantifiers.{position-Some}
+use Rattle.std.proofs.lemmas.List.Sums.{fails_before_first}
+use Rattle.std.proofs.lemmas.Option.{none-some}
+use Rattle.std.proofs.lemmas.Iterator.Adapters.{position_from-zero}
+use Rattle.std.specs.List.{position_or_len}
 use Rattle.keys.specs.Places.{same_meaning, first_from, place_of, keys_with, keys_after}
 use Rattle.keys.specs.Promises.{meaning_at, Apart, SamePlaceSameMeaning, OwnPlaces, PlacesStay}
 
@@ -11,34 +16,21 @@ module _ {K : Type 0} (m : K → List ℕ) (key : K) where
   abbrev alike : K → Bool
   alike k = same_meaning m k key
 
-  -- where the search from `n` answers `i`, the key that stands there means the same
-  record Found (n i : ℕ) (ks : List K) : Type 0 where
-    at : ℕ
-    place : i ≡ n + at
-    within : at < length ks
-    means : meaning_at m ks at ≡ m key
+  means_at : (ks : List K) (i : ℕ) → i < length ks → meaning_at m ks i ≡ m (get_or ks i key)
+  means_at ks i h = get_or-map m ks i key [] h
 
-  found_here : (n i : ℕ) (k : K) (ks : List K) (b : Bool) → alike k ≡ b → cond b (Some n) (first_from alike (n + 1) ks) ≡ Some i → (first_from alike (n + 1) ks ≡ Some i → Found (n + 1) i ks) → Found n i (k ∷ ks)
-  found_here n i k ks true t e ih =
-      let is : n ≡ i = cc in
-      record { at = 0; place = omega arith; within = omega arith; means = (bytes_eq-Decides (m k) (m key)).0 t }
-  found_here n i k ks false t e ih =
-      let f = ih e in
-      record { at = suc f.at; place = omega (arith, f.place); within = omega (arith, f.within); means = f.means }
+  -- the key in use at the place that is found means the same
+  found : (ks : List K) (i : ℕ) → place_of m ks key ≡ Some i → (i < length ks) × (meaning_at m ks i ≡ m key)
+  found ks i e =
+      let p = position-Some alike ks i key (position_from-zero alike ks ∙ e) in
+      (p.0, means_at ks i p.0 ∙ (bytes_eq-Decides (m (get_or ks i key)) (m key)).0 p.1)
 
-  found : (n i : ℕ) (ks : List K) → first_from alike n ks ≡ Some i → Found n i ks
-  found n i [] e = let z : ◌≡◌ {A = ℕ} 0 1 = cc in absurd (omega arith)
-  found n i (k ∷ ks) e = found_here n i k ks (alike k) refl e (found (n + 1) i ks)
-
-  -- where the search finds none, no key means the same
-  missing_here : (n : ℕ) (k : K) (ks : List K) (b : Bool) → alike k ≡ b → cond b (Some n) (first_from alike (n + 1) ks) ≡ None → (first_from alike (n + 1) ks ≡ None → (j : ℕ) → j < length ks → meaning_at m ks j ≡ m key → ⊥) → (j : ℕ) → j < suc (length ks) → meaning_at m (k ∷ ks) j ≡ m key → ⊥
-  missing_here n k ks true t e ih j h w = let z : ◌≡◌ {A = ℕ} 0 1 = cc in omega arith
-  missing_here n k ks false t e ih zero h w = not_from_Decides (alike k) (bytes_eq-Decides (m k) (m key)) t w
-  missing_here n k ks false t e ih (suc j) h w = ih e j (omega arith) w
-
-  missing : (n : ℕ) (ks : List K) → first_from alike n ks ≡ None → (j : ℕ) → j < length ks → meaning_at m ks j ≡ m key → ⊥
-  missing n [] e j h w = omega arith
-  missing n (k ∷ ks) e j h w = missing_here n k ks (alike k) refl e (missing (n + 1) ks) j h w
+  -- where none is found, no key in use means the same
+  missing : (ks : List K) → place_of m ks key ≡ None → (j : ℕ) → j < length ks → meaning_at m ks j ≡ m key → ⊥
+  missing ks e j h w =
+      let first = position_or_len alike ks in
+      let all : length ks ≤ first = ⊎_elim (λ l. absurd (none-some first (sym (cond_below first (length ks) (Some first) None l ∙ position_from-zero alike ks ∙ e)))) (λ l. l) (cases_lt first (length ks)) in
+      not_from_Decides _ (bytes_eq-Decides (m (get_or ks j key)) (m key)) (fails_before_first alike ks j key (omega (arith, all))) (sym (means_at ks j h) ∙ w)
 
   -- keys that come after change no place found
   longer_here : (n i : ℕ) (b : Bool) (x y : Option ℕ) → cond b (Some n) x ≡ Some i → (x ≡ Some i → y ≡ Some i) → cond b (Some n) y ≡ Some i
@@ -60,10 +52,7 @@ module _ {K : Type 0} (m : K → List ℕ) (key : K) where
 module _ {K : Type 0} (m : K → List ℕ) where
   -- the key in use at the place of a key means the same
   pub place_means : (key : K) (ks : List K) (i : ℕ) → place_of m ks key ≡ Some i → (i < length ks) × (meaning_at m ks i ≡ m key)
-  place_means key ks i e =
-      let f = found m key 0 i ks e in
-      let is : f.at ≡ i = omega (arith, f.place) in
-      (omega (arith, f.within), ap (meaning_at m ks) (sym is) ∙ f.means)
+  place_means key ks i e = found m key ks i e
 
   pub same_place_same_meaning : (ks : List K) → SamePlaceSameMeaning m ks
   unfolding SamePlaceSameMeaning
@@ -75,7 +64,7 @@ module _ {K : Type 0} (m : K → List ℕ) where
   -- a key in use is found, at no other place than its own
   own_here : (ks : List K) → Apart m ks → (key : K) (i : ℕ) → i < length ks → meaning_at m ks i ≡ m key → (o : Option ℕ) → place_of m ks key ≡ o → o ≡ Some i
   unfolding Apart
-  own_here ks apart key i h w None e = absurd (missing m key 0 ks e i h w)
+  own_here ks apart key i h w None e = absurd (missing m key ks e i h w)
   own_here ks apart key i h w (Some j) e =
       let p = place_means key ks j e in
       ap (λ n. Some n) (apart j i p.0 h (p.1 ∙ sym w))
@@ -103,10 +92,10 @@ module _ {K : Type 0} (m : K → List ℕ) where
       ⊎_elim
       (λ bi. ⊎_elim
       (λ bj. apart i j bi bj (sym (means_before ks new i bi) ∙ e ∙ means_before ks new j bj))
-      (λ aj. absurd (missing m new 0 ks none i bi (sym (means_before ks new i bi) ∙ e ∙ means_last ks new j (omega arith))))
+      (λ aj. absurd (missing m new ks none i bi (sym (means_before ks new i bi) ∙ e ∙ means_last ks new j (omega arith))))
       (cases_lt j (length ks)))
       (λ ai. ⊎_elim
-      (λ bj. absurd (missing m new 0 ks none j bj (sym (means_before ks new j bj) ∙ sym e ∙ means_last ks new i (omega arith))))
+      (λ bj. absurd (missing m new ks none j bj (sym (means_before ks new j bj) ∙ sym e ∙ means_last ks new i (omega arith))))
       (λ aj. omega arith)
       (cases_lt j (length ks)))
       (cases_lt i (length ks))
@@ -114,6 +103,21 @@ module _ {K : Type 0} (m : K → List ℕ) where
   pub stays_apart : (ks : List K) (size : ℕ) (new : K) → Apart m ks → Apart m (keys_after m ks size new)
   stays_apart ks size new apart = after m new (Apart m) ks size apart (apart_push ks new apart)
 
+  -- with a new key written behind the keys in use, these stay apart, and each keeps its place
+  pub apart_more : (row : List K) (used : ℕ) (new : K) → used < length row → None ≡ place_of m (take used row) new → Apart m (take used row) → Apart m (take (used + 1) (set row used new))
+  apart_more row used new h none apart = rw (take_more_set row used new h) (apart_push (take used row) new apart (sym none))
+
+  pub stay_more : (row : List K) (used : ℕ) (new : K) → used < length row → PlacesStay m (take used row) (take (used + 1) (set row used new))
+  unfolding PlacesStay
+  stay_more row used new h key i e = rw (take_more_set row used new h) (longer m key 0 i (take used row) (new ∷ []) e)
+
+  pub stay_same : (ks : List K) → PlacesStay m ks ks
+  unfolding PlacesStay
+  stay_same ks key i e = e
+
   pub apart_none : Apart m []
   unfolding Apart
   apart_none i j hi hj e = omega arith
+
+-- what `Register::add` promises beside its place and its keys
+pub ruleset adding = (same_place_same_meaning, own_places, stay_more, stay_same, apart_more)

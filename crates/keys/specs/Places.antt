@@ -1,6 +1,6 @@
 -- Places of keys, over the list of the keys in use, in order of place. `m` tells what a key means.
-use Rattle.std.specs.Prelude.{ℕ, ◌+◌, Bool, cond, List, [], ◌∷◌, ◌++◌, length, Some, None, Option, nat_lt}
-use Rattle.std.specs.List.{slice_get}
+use Rattle.std.specs.Prelude.{ℕ, Bool, cond, List, [], ◌∷◌, ◌++◌, length, Some, None, Option, nat_lt}
+use Rattle.std.specs.List.{position_from, slice_get}
 use Rattle.std.specs.Str.{bytes_eq}
 
 -- whether two keys mean the same
@@ -9,8 +9,7 @@ same_meaning m a b = bytes_eq (m a) (m b)
 
 -- the place of the first key that passes a test, counted from `n`
 abbrev pub first_from : {K : Type 0} → (K → Bool) → ℕ → List K → Option ℕ
-first_from test n [] = None
-first_from test n (k ∷ ks) = cond (test k) (Some n) (first_from test (n + 1) ks)
+first_from test n ks = position_from test n ks
 
 -- the place that a key has: that of the key in use which means the same
 abbrev pub place_of : {K : Type 0} → (K → List ℕ) → List K → K → Option ℕ

@@ -5,7 +5,7 @@ ghost use Rattle.keys.specs.Meanings.{group_meaning, tag_meaning};
 use crate::key::Key;
 
 // A sort group by its number.
-#[derive(Clone, Copy)]
+#[derive(Clone, Copy, PartialEq, Eq, Debug)]
 pub struct GroupNumber {
     number: u64,
 }
@@ -28,7 +28,7 @@ impl Key for GroupNumber {
     ghost meaning = { group_meaning };
 
     fn same(&self, other: &GroupNumber) -> bool {
-        other.number == self.number
+        self == other
     }
 }
 
@@ -76,6 +76,7 @@ impl Key for CageTag {
     ghost meaning = { tag_meaning };
 
     fn same(&self, other: &CageTag) -> bool {
+        // Not a derived equality: the reprint is no part of the meaning.
         (self.carrier, self.cage) == (other.carrier, other.cage)
     }
 }

@@ -24,8 +24,7 @@ impl PauseBoard {
         ensures value { result ≡ paused_at self.now zone }
         ensures none_above_seven { 8 ≤ zone → result ≡ false }
     {
-        let at = zone as usize;
-        if at < 8 { self.marks[at] } else { false }
+        self.marks.get(zone as usize).copied().unwrap_or(false)
     }
 
     // Refusal 7 where the zone is paused.
@@ -39,21 +38,25 @@ impl PauseBoard {
     }
 
     // Sets one mark; nothing where the zone is above 7.
+    #[tactic(auto, using(crate::proofs::Boards::mark_past))]
     pub fn mark(&mut self, zone: u8, paused: bool)
         ensures value { self.new ≡ with_mark self.old zone paused }
         ensures none_above_seven { 8 ≤ zone → self.new ≡ self.old }
     {
+        // A test and not get_mut: of an array that get_mut lent, a proof knows only the length.
         if zone < 8 {
             self.marks[zone as usize] = paused;
         }
     }
 
-    // Sets the mark and keeps the former one.
-    fn begin_hold(&mut self, zone: u8) -> Hold<'_>
+    // Pauses a zone until the hold ends; a zone above 7 holds nothing.
+    #[tactic(auto, using(crate::proofs::Boards::mark_back))]
+    pub fn hold(&mut self, zone: u8) -> Hold<'_>
         ensures lender { result.board.ghost_name ≡ self.entry.ghost_name }
         ensures value { result.board.now ≡ with_mark self.old zone true }
         ensures zone { result.zone ≡ zone }
         ensures former { result.former ≡ paused_at self.old zone }
+        ensures as_found { with_mark result.board.now result.zone result.former ≡ self.old }
         ensures none_above_seven { 8 ≤ zone → result.board.now ≡ self.old }
     {
         let former = self.is_paused(zone);
@@ -63,18 +66,6 @@ impl PauseBoard {
             zone,
             former,
         }
-    }
-
-    // Pauses a zone until the hold ends; a zone above 7 holds nothing.
-    pub fn hold(&mut self, zone: u8) -> Hold<'_>
-        ensures lender { result.board.ghost_name ≡ self.entry.ghost_name }
-        ensures value { result.board.now ≡ with_mark self.old zone true }
-        ensures zone { result.zone ≡ zone }
-        ensures former { result.former ≡ paused_at self.old zone }
-        ensures as_found { with_mark result.board.now result.zone result.former ≡ self.old }
-        ensures none_above_seven { 8 ≤ zone → result.board.now ≡ self.old }
-    {
-        self.begin_hold(zone)
     }
 }
 
@@ -125,8 +116,7 @@ pub fn open_beside(board: &mut PauseBoard, held: u8, first: u8, second: u8) -> R
 {
     let hold = board.hold(held);
     hold.board().check_open(first)?;
-    hold.board().check_open(second)?;
-    Ok(())
+    hold.board().check_open(second)
 }
 
 #[cfg(test)]

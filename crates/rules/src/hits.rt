@@ -1,25 +1,16 @@
 // The hit share of a zone: its starts answered by themselves, in percent of its accepted starts.
 ghost use Rattle.std.specs.Prelude.{◌≡◌, ◌+◌, ◌*◌, ◌^◌, ◌<◌, MatchOption};
-ghost use Rattle.rules.specs.Shares.{rounded, hit_share, NearestPercent, HalvesUp};
+ghost use Rattle.rules.specs.Shares.{hit_share, NearestPercent, HalvesUp};
 
-// The quotient as a whole number, halves up.
-fn rounded_quotient(part: u64, whole: u64) -> u64
-    requires { (0 < whole) × (2 * part + 2 * whole < 2 ^ 64) }
-    ensures { result ≡ rounded part whole }
-{
-    (2 * part + whole) / (2 * whole)
-}
-
-// None before the first start.
+// The nearest whole percentage, halves up. None before the first start.
 pub fn hit_share(hits: u32, starts: u32) -> Option<u64>
     ensures value { result ≡ hit_share hits starts }
     ensures nearest_percent { MatchOption result (starts ≡ 0) (λ share. NearestPercent hits starts share) }
     ensures halves_up { MatchOption result (starts ≡ 0) (λ share. HalvesUp hits starts share) }
 {
-    if starts == 0 {
-        return None;
-    }
-    Some(rounded_quotient(100 * u64::from(hits), u64::from(starts)))
+    let part = 100 * u64::from(hits);
+    let whole = u64::from(starts);
+    (2 * part + whole).checked_div(2 * whole)
 }
 
 #[cfg(test)]
