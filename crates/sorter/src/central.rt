@@ -7,6 +7,7 @@ use messages::assignments::Assignment;
 use messages::central::{answer, key_after};
 use messages::requests::{Answer, Request};
 
+// Zones are written by index after a test, since `get_mut` was tried and a proof knows nothing of an element written through it.
 #[derive(Clone, Copy)]
 pub(crate) struct Central {
     held: Option<Assignment>,

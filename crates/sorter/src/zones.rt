@@ -37,9 +37,7 @@ impl Zones {
     }
 
     pub(crate) fn at(&mut self, zone: u8) -> Result<&mut Zone, Refusal> {
-        self.row
-            .get_mut(zone as usize)
-            .ok_or(Refusal::NoSuchZone)
+        self.row.get_mut(zone as usize).ok_or(Refusal::NoSuchZone)
     }
 
     pub(crate) fn counts(&self) -> [Counts; ZONES] {

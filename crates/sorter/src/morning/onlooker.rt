@@ -114,10 +114,12 @@ impl<K: Key + Copy> Onlooker<K> {
         if let Some(number) = report.settled {
             self.settle(number)?;
         }
-        Ok(report
-            .answered
-            .map(|answered| self.compare(answered))
-            .transpose()?)
+        Ok(
+            report
+                .answered
+                .map(|answered| self.compare(answered))
+                .transpose()?,
+        )
     }
 
     // Keeps key and request under the number given, which is the next one.

@@ -1,8 +1,6 @@
 // The same day with cage tags for group numbers.
 use super::script::Day;
 use crate::faults::Fault;
-use calls::call::Call;
-use calls::stock::Stock;
 use keys::kinds::{CageTag, GroupNumber};
 use std::alloc::Global;
 
@@ -23,45 +21,12 @@ pub(crate) fn tagged(day: &Day<GroupNumber>, heap: Global) -> Result<Day<CageTag
         stock: day
             .stock
             .iter()
-            .map(|item| tagged_stock(*item))
+            .map(|item| item.map_key(|group| tag(group, 0)))
             .collect(heap)?,
         calls: (1..=u8::MAX)
             .cycle()
             .zip(day.calls.iter())
-            .map(|(reprint, call)| tagged_call(*call, reprint))
+            .map(|(reprint, call)| call.map_key(|group| tag(group, reprint)))
             .collect(heap)?,
     })
-}
-
-fn tagged_stock(item: Stock<GroupNumber>) -> Stock<CageTag> {
-    Stock {
-        zone: item.zone,
-        key: tag(item.key, 0),
-        assignment: item.assignment,
-    }
-}
-
-fn tagged_call(call: Call<GroupNumber>, reprint: u8) -> Call<CageTag> {
-    match call {
-        Call::Start {
-            zone,
-            key,
-            request,
-            board,
-        } => Call::Start {
-            zone,
-            key: tag(key, reprint),
-            request,
-            board,
-        },
-        Call::DeliverUp { zone } => Call::DeliverUp { zone },
-        Call::DeliverDown { zone } => Call::DeliverDown { zone },
-        Call::TakeUp { key } => Call::TakeUp {
-            key: tag(key, reprint),
-        },
-        Call::LetGo { zone, key } => Call::LetGo {
-            zone,
-            key: tag(key, reprint),
-        },
-    }
 }
