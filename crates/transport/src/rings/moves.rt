@@ -67,6 +67,7 @@ impl<const DEPTH: usize> Transport for RingBank<DEPTH> {
 
     #[tactic(auto, using(crate::specs::RingRoom::lane_read))]
     fn count(&self, lane: Lane) -> usize {
+        // No `map_or`: a closure over rings of any depth would need clauses of its own.
         match lane.number() {
             Some(i) => self.rings[i].count(),
             None => 0,
