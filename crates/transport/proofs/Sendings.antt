@@ -1,6 +1,6 @@
 -- Sending to several zones: one turn of it under the laws of any room rule, and what each lane gets in all.
-use Rattle.std.proofs.Common.{◌≡◌, ℕ, zero, suc, ◌+◌, ◌-◌, ◌<◌, ◌≤◌, true, false, ltb, ◌≢◌, List, [], ◌++◌, map, length, get_or, set, replicate, is_some, Some, None, Ok, Option, Result, sym, refl, ap, ◌∙◌, subst, ⊎_elim, add-one, arith}
-use Rattle.std.proofs.lemmas.List.{get_or-append-add, get_or_append_left, get_or-map, get_or_past, get_or-set_other, get_or-set_same, length-replicate, length-append, length-map, length-set, get_or-replicate, same_lists, get_or_default, append-nil}
+use Rattle.std.proofs.Common.{◌≡◌, ℕ, zero, suc, ◌+◌, ◌<◌, ◌≤◌, true, false, ltb, ◌≢◌, List, [], ◌++◌, map, length, get_or, set, replicate, is_some, Some, None, Ok, Option, Result, sym, refl, ap, ◌∙◌, subst, ⊎_elim, add-one, arith}
+use Rattle.std.proofs.lemmas.List.{get_or-append-add, get_or-map, get_or_past, get_or-set_other, get_or-set_same, length-set, get_or_default, append-nil}
 use Rattle.std.specs.List.{range_with_len, zip}
 use Rattle.std.proofs.lemmas.List.FromFn.{length-range_with_len, get_or-range_with_len}
 use Rattle.std.proofs.lemmas.Slice.Zip.{get_or-zip, length-zip}
@@ -59,31 +59,11 @@ marks_down : (to : List (Option Down)) (k : ℕ) → k < length to → get_or (d
 unfolding down_marks
 marks_down to k l = get_or-append-add (replicate 8 false) (map is_some to) k false ∙ get_or-map is_some to k None false l
 
-pub length_marks : (to : List (Option Down)) → length to ≡ 8 → length (down_marks to) ≡ 16
-unfolding down_marks
-length_marks to eight = length-append (replicate 8 false) (map is_some to) ∙ simp (length-map, length-replicate) (omega arith)
-
--- the marks by their places
-pub marks_from : (to : List (Option Down)) (marks : Marks) → length to ≡ 8 → length marks ≡ 16
-    → ((k : ℕ) → k < 8 → get_or marks k false ≡ false) → ((k : ℕ) → k < 8 → get_or marks (8 + k) false ≡ is_some (get_or to k None)) → marks ≡ down_marks to
-unfolding down_marks
-marks_from to marks eight long low high =
-    same_lists marks (down_marks to) (long ∙ sym (length_marks to eight))
-    (λ k d h. get_or_default marks k d false (omega arith) ∙ ⊎_elim
-    (λ (l : k < 8). low k l ∙ sym (get_or_append_left (replicate 8 false) (map is_some to) d k (simp length-replicate (omega arith)) ∙ get_or-replicate 8 k false d l))
-    (λ (l : 8 ≤ k).
-    let e : k ≡ 8 + (k - 8) = omega arith in
-    ap (λ (n : ℕ). get_or marks n false) e ∙ high (k - 8) (omega arith) ∙ sym (marks_down to (k - 8) (omega arith)) ∙ ap (λ (n : ℕ). get_or (down_marks to) n false) (sym e) ∙ get_or_default (down_marks to) k false d (omega (arith, length_marks to eight)))
-    (cases_lt k 8))
-
 pub ready_start : (room : Rule) (lists : Lists) (to : List (Option Down)) → room lists (down_marks to) ≡ true → Ready room lists to 0
 ready_start room lists to adm = (down_marks to, adm, λ k _ _ h. marks_down to k (some_within to k h) ∙ h)
 
 pub ready_skip : (room : Rule) (lists : Lists) (to : List (Option Down)) (z : ℕ) → Ready room lists to z → Ready room lists to (z + 1)
 ready_skip room lists to z (s, adm, holds) = (s, adm, λ k l. holds k (omega arith))
-
-pub ready_at : (room : Rule) (to : List (Option Down)) (z : ℕ) {lists lists' : Lists} → lists ≡ lists' → Ready room lists to z → Ready room lists' to z
-ready_at room to z e h = subst (λ (x : Lists). Ready room x to z) e h
 
 pub sent_none : (lists : Lists) (place : ℕ) (to : List (Option Down)) → lists ≡ sent_below lists place to 0
 unfolding sent_below
@@ -127,9 +107,6 @@ module _ (lists : Lists) (place : ℕ) (to : List (Option Down)) (z : ℕ) (befo
 
   pub sent_skip : get_or to z None ≡ None → before ≡ sent_below lists place to z → after ≡ before → after ≡ sent_below lists place to (z + 1)
   sent_skip is so_far same = same ∙ so_far ∙ sym (sent_more lists place to z ∙ ap (posted_at (sent_below lists place to z) (8 + z) place) is)
-
-pub sent_end : (lists : Lists) (place : ℕ) (to : List (Option Down)) (z : ℕ) (after : Lists) → z ≡ 8 → after ≡ sent_below lists place to z → after ≡ all_sent lists place to
-sent_end lists place to z after eight so_far = so_far ∙ ap (sent_below lists place to) eight
 
 -- what each lane has after a sending
 posted_length : (lists : Lists) (i place : ℕ) (o : Option Down) → length (posted_at lists i place o) ≡ length lists
