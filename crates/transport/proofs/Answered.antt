@@ -9,7 +9,7 @@ use Rattle.transport.specs.declared.faults.Subject.TheVariants.{Zone}
 use Rattle.transport.specs.declared.lanes.Lane.{Lane}
 use Rattle.transport.specs.declared.lanes.Lane.TheVariants.{Up, Down}
 use Rattle.transport.specs.Faults.{refused}
-use Rattle.transport.specs.Lanes.{Lists, Rule, lane_number, zone_of, only_lane, lane_at, joined_at, removed_at, oldest_of, put_answer, put_lists, put_answer_at, put_lists_at, oldest, waiting_count, waiting_at, taken, oldest_at, count_at, behind_at, taken_at}
+use Rattle.transport.specs.Lanes.{Lists, Rule, lane_number, zone_of, only_lane, lane_at, joined_at, removed_at, oldest_of, put_answer, put_lists, put_answer_at, put_lists_at, oldest, waiting_count, taken, oldest_at, count_at, taken_at}
 
 pub number_small : (lane : Lane) (i : ℕ) → Some i ≡ lane_number lane → i < 16
 number_small (Up z) i e = grind (arith, nat_tests)
@@ -36,9 +36,6 @@ oldest_is lists lane i e = ap (oldest_at lists) e
 -- where the lane's list is ms
 pub count_is : (lists : Lists) (lane : Lane) (i : ℕ) (ms : List Message) → Some i ≡ lane_number lane → lane_at lists i ≡ ms → length ms ≡ waiting_count lists lane
 count_is lists lane i ms e is = ap length (sym is) ∙ ap (count_at lists) e
-
-pub behind_is : (lists : Lists) (lane : Lane) (i ahead : ℕ) (ms : List Message) → Some i ≡ lane_number lane → lane_at lists i ≡ ms → oldest_of (drop ahead ms) ≡ waiting_at lists lane ahead
-behind_is lists lane i ahead ms e is = ap (λ (xs : List Message). oldest_of (drop ahead xs)) (sym is) ∙ ap (λ (o : Option ℕ). behind_at lists o ahead) e
 
 pub taken_is : (lists : Lists) (lane : Lane) (i : ℕ) → Some i ≡ lane_number lane → removed_at lists i ≡ taken lists lane
 taken_is lists lane i e = ap (taken_at lists) e

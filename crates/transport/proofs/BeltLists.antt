@@ -4,13 +4,12 @@ use borrow.Rule.Slice.PartMut.{put_mid}
 use Rattle.std.specs.List.{range_with_len, remove, AllByRecursion, sum_by, count_by, position, position_or_len}
 use Rattle.std.proofs.lemmas.List.{same_lists, append-nil, append_assoc, map-append, length-map, length-set, length-take, length-take-le, length-drop, length-append, get_or-set_same, get_or-set_other, take-append-drop, take-take, take_at, drop_more, drop-drop, set-get_or, get_or-take}
 use Rattle.std.proofs.lemmas.List.FromFn.{length-map-range_with_len, get_or-map-range_with_len, sum_by-map-range_with_len_more}
-use Rattle.std.proofs.lemmas.List.Edits.{get_or-remove_below, get_or-remove_above}
 use Rattle.std.proofs.lemmas.List.Elements.{filter-append}
 use Rattle.std.proofs.lemmas.List.Quantifiers.{position-Some}
 use Rattle.std.proofs.lemmas.List.Sums.{sum_by-cons, length-filter, fails_before_first}
 use Rattle.std.proofs.lemmas.Slice.{between_is}
 use Rattle.std.proofs.ByRecursion.{All-from_get_or}
-use Rattle.std.proofs.lemmas.Bool.{cases_eq, cases_lt, cond-true, cond-false, eq-eqb, ne_eqb, eqb-true, eqb-false, lt-ltb}
+use Rattle.std.proofs.lemmas.Bool.{cases_eq, cond-true, cond-false, eq-eqb, ne_eqb, eqb-true, eqb-false, lt-ltb}
 use Rattle.std.proofs.lemmas.Bool.Decides.{nat_tests}
 use Rattle.messages.specs.declared.kinds.Message.{Message}
 use Rattle.transport.specs.declared.entry.Entry.{Entry}
@@ -184,22 +183,3 @@ one_less xs ys a n below within turned =
     let rest : drop 1 mid ≡ drop (suc a) (take n xs) = ap (λ (zs : List Entry). drop 1 zs) (between_is xs a n) ∙ drop-drop 1 a (take n xs) ∙ ap (λ (m : ℕ). drop m (take n xs)) (add-one a) in
     ap (λ (zs : List Entry). take (n - 1) zs) split ∙ take_at front (take 1 mid ++ post) (n - 1) long
     ∙ ap (λ (zs : List Entry). zs ++ drop 1 mid) (sym (take-take a n xs (omega arith))) ∙ ap (λ (zs : List Entry). take a (take n xs) ++ zs) rest
-
--- what holds of each of the first n holds of those left
-pub less_small : (xs : List Entry) (a n : ℕ) → a < n → n ≤ length xs
-    → ((k : ℕ) (d : Entry) → k < n → (get_or xs k d).lane < 16) → (k : ℕ) (d : Entry) → k < n - 1 → (get_or (remove (take n xs) a) k d).lane < 16
-less_small xs a n below within small k d l =
-    let long : length (take n xs) ≡ n = length-take-le n xs within in
-    ⊎_elim
-    (λ (h : k < a). rw (get_or-remove_below (take n xs) a d k h (omega arith)) (rw (get_or-take n xs k d (omega arith)) (small k d (omega arith))))
-    (λ (h : a ≤ k). rw (get_or-remove_above (take n xs) a d k h (omega arith)) (rw (get_or-take n xs (k + 1) d (omega arith)) (small (k + 1) d (omega arith))))
-    (cases_lt k a)
-
--- of the first n, in a list of which they are known
-pub small_at : (xs ys : List Entry) (n : ℕ) → take n xs ≡ ys → ((k : ℕ) (d : Entry) → k < n → (get_or ys k d).lane < 16) → (k : ℕ) (d : Entry) → k < n → (get_or xs k d).lane < 16
-small_at xs ys n e small k d l = subst (λ (x : Entry). x.lane < 16) (sym (ap (λ (zs : List Entry). get_or zs k d) e) ∙ get_or-take n xs k d l) (small k d l)
-
-pub length_turned : (xs ys : List Entry) (a n : ℕ) → a < n → n ≤ length xs → length ys ≡ length (take (n - a) (drop a xs)) → length (put_mid a (n - a) xs ys) ≡ length xs
-length_turned xs ys a n below within same =
-    let l : length ys ≡ n - a = same ∙ simp (length-take, length-drop) (omega arith) in
-    simp (length-append, length-take, length-drop) (omega arith)

@@ -154,9 +154,9 @@ none_full (ring ∷ rings) marks rings_all marks_all = none_full_at (ring ∷ ri
 pub around_is : (depth n : ℕ) → n < depth + depth → n % depth ≡ around depth n
 around_is depth n twice = ⊎_elim
     (λ (few : n < depth).
-        let e : n ≡ 0 * depth + n = omega arith in
-        ap (λ (x : ℕ). x % depth) e ∙ mod-mul-add 0 depth n few ∙ sym (cond-true (ltb n depth) n (n - depth) (lt-ltb n depth few)))
+    let e : n ≡ 0 * depth + n = omega arith in
+    ap (λ (x : ℕ). x % depth) e ∙ mod-mul-add 0 depth n few ∙ sym (cond-true (ltb n depth) n (n - depth) (lt-ltb n depth few)))
     (λ (many : depth ≤ n).
-        let e : n ≡ 1 * depth + (n - depth) = omega arith in
-        ap (λ (x : ℕ). x % depth) e ∙ mod-mul-add 1 depth (n - depth) (omega arith) ∙ sym (cond-false (ltb n depth) n (n - depth) (le-ltb n depth many)))
+    let e : n ≡ 1 * depth + (n - depth) = omega arith in
+    ap (λ (x : ℕ). x % depth) e ∙ mod-mul-add 1 depth (n - depth) (omega arith) ∙ sym (cond-false (ltb n depth) n (n - depth) (le-ltb n depth many)))
     (cases_lt n depth)

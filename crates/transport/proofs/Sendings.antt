@@ -1,8 +1,16 @@
 -- Sending to several zones: one turn of it under the laws of any room rule, and what each lane gets in all.
-use Rattle.std.proofs.Common.{◌≡◌, ℕ, zero, suc, ◌+◌, ◌-◌, ◌<◌, ◌≤◌, true, false, ltb, ◌≢◌, List, [], ◌++◌, map, length, get_or, set, replicate, is_some, Some, None, Ok, Option, Result, sym, refl, ap, ◌∙◌, subst, ⊎_elim, add-one, arith}
-use Rattle.std.proofs.lemmas.List.{get_or-append-add, get_or_append_left, get_or-map, get_or_past, get_or-set_other, get_or-set_same, length-replicate, length-append, length-map, length-set, get_or-replicate, same_lists, get_or_default, append-nil}
+use Rattle.std.proofs.Common.{Bor, Iter, ◌≡◌, ℕ, zero, suc, ◌+◌, ◌<◌, ◌≤◌, true, false, ltb, ◌≢◌, List, [], ◌++◌, map, length, get_or, set, replicate, is_some, Some, None, Ok, Option, Result, sym, refl, ap, ◌∙◌, subst, ⊎_elim, add-one, arith}
+use Rattle.std.proofs.lemmas.List.{get_or-append-add, get_or-map, get_or_past, get_or-set_other, get_or-set_same, length-set, get_or_default, append-nil}
 use Rattle.std.specs.List.{range_with_len, zip}
 use Rattle.std.proofs.lemmas.List.FromFn.{length-range_with_len, get_or-range_with_len}
+use Rattle.std.specs.declared.iter.Zip.{Zip}
+use Rattle.std.specs.declared.ops.Range.{Range}
+use Rattle.std.specs.Iterator.{Yields}
+use Rattle.std.specs.Iterator.Adapters.{zip_first, zip_second}
+use Rattle.std.specs.Slice.Iter.{iter_rest}
+use Rattle.std.proofs.iter.Yields.{fronts, nat_range_steps}
+use Rattle.std.proofs.lemmas.Iterator.{zips, YieldsList-from_range, YieldsList-from_slice, YieldsList-from_zip}
+use Rattle.std.proofs.lemmas.Iterator.Consumers.{YieldsList-turn}
 use Rattle.std.proofs.lemmas.Slice.Zip.{get_or-zip, length-zip}
 use Rattle.std.proofs.lemmas.Bool.Decides.{nat_tests}
 use Rattle.std.proofs.lemmas.Bool.{cases_lt, cases_eq, false≢true, cond-true, lt-ltb}
@@ -35,20 +43,24 @@ pub record ZoneTurn (room : Rule) (start now : Lists) (place : ℕ) (to : List (
   pub is : get_or to z None ≡ next
   pub so_far : SentSoFar room start now place to z
 
--- after n turns the loop is at zone n
-pub zone_turn : (room : Rule) (start now : Lists) (place : ℕ) (to : List (Option Down)) (n z : ℕ) (next : Option Down) → length to ≡ 8
-    → (n < length (by_zone to)) × ((z, next) ≡ get_or (by_zone to) n (z, next)) → SentSoFar room start now place to n → ZoneTurn room start now place to n z next
-zone_turn room start now place to n z next eight (within, at) so_far =
+-- a turn of a `for` over the zones with what each is sent, which has yielded xs
+pub zone_turn : (room : Rule) (start now : Lists) (place : ℕ) (to : List (Option Down)) (xs : List (ℕ × Bor (Option Down))) (s t u : Zip (Range ℕ) (Iter (Option Down))) (r : Option (ℕ × Bor (Option Down))) (z : ℕ) (next : Bor (Option Down))
+    → length to ≡ 8 → zip_first s ≡ record { start = 0; end = 8 } → iter_rest (zip_second s) ≡ to → Yields (zips nat_range_steps fronts) s xs t → r ≡ Some (z, next) → zips nat_range_steps fronts t r u
+    → SentSoFar room start now place to (length xs) → ZoneTurn room start now place to (length xs) z next.now
+zone_turn room start now place to xs s t u r z next eight zones sent y is step so_far =
+    let n : ℕ = length xs in
+    let found = YieldsList-turn (YieldsList-from_zip (YieldsList-from_range 0 8 8 zones refl) (YieldsList-from_slice to sent)) xs t y r u (z, next) is step in
+    let within : n < length (by_zone to) = found.0 in
     let counted = length-range_with_len 0 8 in
     let long = length-zip (range_with_len 0 8) to in
     let small : n < 8 = grind (arith, nat_tests) in
-    let pair : (z, next) ≡ (get_or (range_with_len 0 8) n z, get_or to n next) = at ∙ get_or-zip (range_with_len 0 8) to n (z, next) (omega arith) (omega arith) in
+    let pair : ◌≡◌ {A = ℕ × Option Down} (z, next.now) (get_or (range_with_len 0 8) n z, get_or to n next.now) = found.1 ∙ get_or-zip (range_with_len 0 8) to n (z, next.now) (omega arith) (omega arith) in
     let number : get_or (range_with_len 0 8) n z ≡ n = omega (arith, get_or-range_with_len 0 8 n z small) in
     let same : z ≡ n = ap (λ (p : ℕ × Option Down). p.0) pair ∙ number in
     record {
       small = omega arith;
       same = same;
-      is = ap (λ (k : ℕ). get_or to k None) same ∙ get_or_default to n None next (omega arith) ∙ sym (ap (λ (p : ℕ × Option Down). p.1) pair);
+      is = ap (λ (k : ℕ). get_or to k None) same ∙ get_or_default to n None next.now (omega arith) ∙ sym (ap (λ (p : ℕ × Option Down). p.1) pair);
       so_far = subst (SentSoFar room start now place to) (sym same) so_far;
     }
 
@@ -59,31 +71,11 @@ marks_down : (to : List (Option Down)) (k : ℕ) → k < length to → get_or (d
 unfolding down_marks
 marks_down to k l = get_or-append-add (replicate 8 false) (map is_some to) k false ∙ get_or-map is_some to k None false l
 
-pub length_marks : (to : List (Option Down)) → length to ≡ 8 → length (down_marks to) ≡ 16
-unfolding down_marks
-length_marks to eight = length-append (replicate 8 false) (map is_some to) ∙ simp (length-map, length-replicate) (omega arith)
-
--- the marks by their places
-pub marks_from : (to : List (Option Down)) (marks : Marks) → length to ≡ 8 → length marks ≡ 16
-    → ((k : ℕ) → k < 8 → get_or marks k false ≡ false) → ((k : ℕ) → k < 8 → get_or marks (8 + k) false ≡ is_some (get_or to k None)) → marks ≡ down_marks to
-unfolding down_marks
-marks_from to marks eight long low high =
-    same_lists marks (down_marks to) (long ∙ sym (length_marks to eight))
-    (λ k d h. get_or_default marks k d false (omega arith) ∙ ⊎_elim
-    (λ (l : k < 8). low k l ∙ sym (get_or_append_left (replicate 8 false) (map is_some to) d k (simp length-replicate (omega arith)) ∙ get_or-replicate 8 k false d l))
-    (λ (l : 8 ≤ k).
-    let e : k ≡ 8 + (k - 8) = omega arith in
-    ap (λ (n : ℕ). get_or marks n false) e ∙ high (k - 8) (omega arith) ∙ sym (marks_down to (k - 8) (omega arith)) ∙ ap (λ (n : ℕ). get_or (down_marks to) n false) (sym e) ∙ get_or_default (down_marks to) k false d (omega (arith, length_marks to eight)))
-    (cases_lt k 8))
-
 pub ready_start : (room : Rule) (lists : Lists) (to : List (Option Down)) → room lists (down_marks to) ≡ true → Ready room lists to 0
 ready_start room lists to adm = (down_marks to, adm, λ k _ _ h. marks_down to k (some_within to k h) ∙ h)
 
 pub ready_skip : (room : Rule) (lists : Lists) (to : List (Option Down)) (z : ℕ) → Ready room lists to z → Ready room lists to (z + 1)
 ready_skip room lists to z (s, adm, holds) = (s, adm, λ k l. holds k (omega arith))
-
-pub ready_at : (room : Rule) (to : List (Option Down)) (z : ℕ) {lists lists' : Lists} → lists ≡ lists' → Ready room lists to z → Ready room lists' to z
-ready_at room to z e h = subst (λ (x : Lists). Ready room x to z) e h
 
 pub sent_none : (lists : Lists) (place : ℕ) (to : List (Option Down)) → lists ≡ sent_below lists place to 0
 unfolding sent_below
@@ -127,9 +119,6 @@ module _ (lists : Lists) (place : ℕ) (to : List (Option Down)) (z : ℕ) (befo
 
   pub sent_skip : get_or to z None ≡ None → before ≡ sent_below lists place to z → after ≡ before → after ≡ sent_below lists place to (z + 1)
   sent_skip is so_far same = same ∙ so_far ∙ sym (sent_more lists place to z ∙ ap (posted_at (sent_below lists place to z) (8 + z) place) is)
-
-pub sent_end : (lists : Lists) (place : ℕ) (to : List (Option Down)) (z : ℕ) (after : Lists) → z ≡ 8 → after ≡ sent_below lists place to z → after ≡ all_sent lists place to
-sent_end lists place to z after eight so_far = so_far ∙ ap (sent_below lists place to) eight
 
 -- what each lane has after a sending
 posted_length : (lists : Lists) (i place : ℕ) (o : Option Down) → length (posted_at lists i place o) ≡ length lists

@@ -11,6 +11,7 @@ mod moves;
 pub const BELT_SIZE: usize = 64;
 
 // The belt: the messages of all lanes, in order of arrival.
+// An array with a count beside it, since a transport is copied and has no heap: the library's fixed vector is not copied.
 #[derive(Clone, Copy)]
 pub struct Belt {
     entries: [Entry; BELT_SIZE],

@@ -30,6 +30,7 @@ impl Belt {
         }
     }
 
+    // The places that hold a message.
     fn held(&self) -> &[Entry]
         ensures { result.now ≡ held self.now }
     {
@@ -120,10 +121,7 @@ impl Transport for Belt {
 
     #[tactic(auto, using(crate::proofs::BeltLists::count_is))]
     fn count(&self, lane: Lane) -> usize {
-        match lane.number() {
-            Some(i) => self.count_of(i),
-            None => 0,
-        }
+        lane.number().map_or(0, |i| self.count_of(i))
     }
 
     #[tactic(auto, using(crate::proofs::BeltLists::lane_is))]

@@ -6,6 +6,7 @@ use messages::kinds::Message;
 pub(crate) mod moves;
 
 // The waiting messages of one lane, at most DEPTH: the oldest stands at `head`, the others follow it around.
+// A ring of its own, since a transport is copied and has no heap: the library's ring buffer is on the heap, and its fixed vector is not copied.
 #[derive(Clone, Copy)]
 pub struct Ring<const DEPTH: usize> {
     slots: [Message; DEPTH],

@@ -8,7 +8,7 @@ mod moves;
 // The messages that a lane of the rings holds.
 pub const RING_DEPTH: usize = 16;
 
-// The rings. Rings of another depth are another such line.
+// The rings. Rings of another depth are another such line, and another `new`.
 pub type Rings = RingBank<RING_DEPTH>;
 
 // A ring for each lane, by lane number: a lane has room while it has fewer messages than the depth. Proved once for every depth.

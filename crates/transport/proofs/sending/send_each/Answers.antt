@@ -1,7 +1,5 @@
 use Rattle.std.proofs.Common.{◌≡◌, ℕ, ◌+◌, length, sym, refl, ap, ◌∙◌, subst, rules}
 use Rattle.std.proofs.lemmas.List.{length_push}
-use Rattle.std.proofs.lemmas.Iterator.{YieldsList-from_range, YieldsList-from_slice, YieldsList-from_zip}
-use Rattle.std.proofs.lemmas.Iterator.Consumers.{YieldsList-turn}
 use Rattle.transport.specs.Sending.{down_message}
 use Rattle.transport.proofs.RoomLaws.{not_refused}
 use Rattle.transport.proofs.Sendings.{SentSoFar, zone_turn, ready_start, ready_skip, sent_none, sent_one, sent_skip, turn}
@@ -21,8 +19,8 @@ loop-zone-preserved-in-Continue-1 g c =
     let before = t.waiting c.loop-zone.transport in
     let after = t.waiting c.put.new.self in
     let long : length to ≡ 8 = search rules in
-    let found = YieldsList-turn (YieldsList-from_zip (YieldsList-from_range 0 8 8 (cc) refl) (YieldsList-from_slice to (cc))) c.loop-zone.yielded c.loop-zone.zone-iterator c.loop-zone.yielded_by c.next.result c.next.new.self (z, c.in-Some.field-0-1) c.in-Some.is c.next.ensures.steps in
-    let here = zone_turn t.room start before place to (length c.loop-zone.yielded) z c.in-Some.field-0-1.now long found c.loop-zone.invariant in
+    let here = zone_turn t.room start before place to c.loop-zone.yielded c.into_iter-zone-iterator.result c.loop-zone.zone-iterator c.next.new.self c.next.result z c.in-Some.field-0-1
+    long (cc) (cc) c.loop-zone.yielded_by c.in-Some.is c.next.ensures.steps c.loop-zone.invariant in
     let done = turn t.room g.met.T.Transport.part g.met.T.Transport.rest before after to z d (down_message place d) c.put.result
     here.small (here.is ∙ c.in-Some-next.is) here.so_far.1 c.put.ensures.answer c.put.ensures.lists in
     subst (SentSoFar t.room start after place to) (ap (λ (n : ℕ). n + 1) here.same ∙ sym (length_push c.loop-zone.yielded (z, c.in-Some.field-0-1)))
@@ -38,8 +36,8 @@ returns-in_err-put g c =
     let start = t.waiting c.args.transport.now in
     let before = t.waiting c.loop-zone.transport in
     let long : length to ≡ 8 = search rules in
-    let found = YieldsList-turn (YieldsList-from_zip (YieldsList-from_range 0 8 8 (cc) refl) (YieldsList-from_slice to (cc))) c.loop-zone.yielded c.loop-zone.zone-iterator c.loop-zone.yielded_by c.next.result c.next.new.self (z, c.in-Some.field-0-1) c.in-Some.is c.next.ensures.steps in
-    let here = zone_turn t.room start before place to (length c.loop-zone.yielded) z c.in-Some.field-0-1.now long found c.loop-zone.invariant in
+    let here = zone_turn t.room start before place to c.loop-zone.yielded c.into_iter-zone-iterator.result c.loop-zone.zone-iterator c.next.new.self c.next.result z c.in-Some.field-0-1
+    long (cc) (cc) c.loop-zone.yielded_by c.in-Some.is c.next.ensures.steps c.loop-zone.invariant in
     let done = turn t.room g.met.T.Transport.part g.met.T.Transport.rest before (t.waiting c.put.new.self) to z d (down_message place d) c.put.result
     here.small (here.is ∙ c.in-Some-next.is) here.so_far.1 c.put.ensures.answer c.put.ensures.lists in
     absurd (not_refused _ _ done.answer c.in_err-put.was)
@@ -53,7 +51,7 @@ loop-zone-preserved g c =
     let start = t.waiting c.args.transport.now in
     let before = t.waiting c.loop-zone.transport in
     let long : length to ≡ 8 = search rules in
-    let found = YieldsList-turn (YieldsList-from_zip (YieldsList-from_range 0 8 8 (cc) refl) (YieldsList-from_slice to (cc))) c.loop-zone.yielded c.loop-zone.zone-iterator c.loop-zone.yielded_by c.next.result c.next.new.self (z, c.in-Some.field-0-1) c.in-Some.is c.next.ensures.steps in
-    let here = zone_turn t.room start before place to (length c.loop-zone.yielded) z c.in-Some.field-0-1.now long found c.loop-zone.invariant in
+    let here = zone_turn t.room start before place to c.loop-zone.yielded c.into_iter-zone-iterator.result c.loop-zone.zone-iterator c.next.new.self c.next.result z c.in-Some.field-0-1
+    long (cc) (cc) c.loop-zone.yielded_by c.in-Some.is c.next.ensures.steps c.loop-zone.invariant in
     subst (SentSoFar t.room start before place to) (ap (λ (n : ℕ). n + 1) here.same ∙ sym (length_push c.loop-zone.yielded (z, c.in-Some.field-0-1)))
     (sent_skip start place to z before before (here.is ∙ c.in_default.is) here.so_far.0 refl, ready_skip t.room before to z here.so_far.1)
