@@ -43,17 +43,14 @@ pub(crate) fn stock(zone: u8, number: u64) -> Result<Stock<GroupNumber>, Fail> {
     })
 }
 
-impl<'a> Bench<'a, Rings> {
-    // Key 0 is loaded at zone 0.
-    pub(crate) fn loaded(row: &'a mut [GroupNumber], first_number: u32) -> Result<Self, Fail> {
-        let mut register = Register::new(row);
-        let mut pool = loading(first_number)?;
-        pool.load(&mut register, stock(0, 0)?)?;
-        Ok(Bench {
-            pool: pool.open(),
-            register,
-        })
-    }
+// Key 0 is loaded at zone 0.
+pub(crate) fn opened(
+    register: &mut Register<'_, GroupNumber>,
+    first_number: u32,
+) -> Result<Opened<Rings>, Fail> {
+    let mut pool = loading(first_number)?;
+    pool.load(register, stock(0, 0)?)?;
+    Ok(pool.open())
 }
 
 impl<T: Transport> Bench<'_, T> {

@@ -1,11 +1,13 @@
-use crate::bench::{Bench, key, refused};
+use crate::bench::{Bench, key, opened, refused};
 use keys::register::Register;
 use std::test::Fail;
 
 #[test]
 fn deliveries_refused(rt: HostRuntime) -> Result<(), Fail> {
     let mut row = [key(0); 2];
-    let mut bench = Bench::loaded(&mut row, 1)?;
+    let mut register = Register::new(&mut row);
+    let pool = opened(&mut register, 1)?;
+    let mut bench = Bench { pool, register };
     assert_eq!(rt; refused(bench.pool.deliver_up(4)), Some(6));
     assert_eq!(rt; refused(bench.pool.deliver_down(4)), Some(6));
     assert_eq!(rt; refused(bench.pool.deliver_up(3)), Some(14));
@@ -16,7 +18,9 @@ fn deliveries_refused(rt: HostRuntime) -> Result<(), Fail> {
 #[test]
 fn take_ups_refused(rt: HostRuntime) -> Result<(), Fail> {
     let mut row = [key(0); 2];
-    let mut bench = Bench::loaded(&mut row, 1)?;
+    let mut register = Register::new(&mut row);
+    let pool = opened(&mut register, 1)?;
+    let mut bench = Bench { pool, register };
     assert_eq!(rt; refused(bench.take_up(9)), Some(13));
     assert_eq!(rt; refused(bench.take_up(0)), Some(16));
     bench.ask_the_owner();
@@ -29,7 +33,7 @@ fn take_ups_refused(rt: HostRuntime) -> Result<(), Fail> {
 fn a_second_register(rt: HostRuntime) -> Result<(), Fail> {
     let mut row = [key(0); 2];
     let mut other_row = [key(0); 2];
-    let Bench { pool, register: _ } = Bench::loaded(&mut row, 1)?;
+    let pool = opened(&mut Register::new(&mut row), 1)?;
     let mut bench = Bench {
         pool,
         register: Register::new(&mut other_row),

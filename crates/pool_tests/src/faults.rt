@@ -1,6 +1,7 @@
-use crate::bench::{Bench, key, refused};
+use crate::bench::{Bench, key, opened, refused};
 use calls::faults::Fault;
 use calls::reports::Report;
+use keys::register::Register;
 use messages::refusals::Layer;
 use std::test::Fail;
 
@@ -27,7 +28,9 @@ fn told(res: Result<Report, Fault>) -> Option<Facts> {
 #[test]
 fn faults_of_the_pool(rt: HostRuntime) -> Result<(), Fail> {
     let mut row = [key(0); 2];
-    let mut bench = Bench::loaded(&mut row, 1)?;
+    let mut register = Register::new(&mut row);
+    let pool = opened(&mut register, 1)?;
+    let mut bench = Bench { pool, register };
     let no_zone = Facts {
         number: 6,
         layer: Layer::Pool,
@@ -56,7 +59,9 @@ fn faults_of_the_pool(rt: HostRuntime) -> Result<(), Fail> {
 #[test]
 fn fault_of_a_full_up_lane(rt: HostRuntime) -> Result<(), Fail> {
     let mut row = [key(0); 32];
-    let mut bench = Bench::loaded(&mut row, 1)?;
+    let mut register = Register::new(&mut row);
+    let pool = opened(&mut register, 1)?;
+    let mut bench = Bench { pool, register };
     bench.fill_up_lane(2);
     let full = Facts {
         number: 11,
@@ -72,7 +77,9 @@ fn fault_of_a_full_up_lane(rt: HostRuntime) -> Result<(), Fail> {
 #[test]
 fn fault_of_a_full_down_lane(rt: HostRuntime) -> Result<(), Fail> {
     let mut row = [key(0); 32];
-    let mut bench = Bench::loaded(&mut row, 1)?;
+    let mut register = Register::new(&mut row);
+    let pool = opened(&mut register, 1)?;
+    let mut bench = Bench { pool, register };
     bench.fill_down_lane(2);
     assert_eq!(rt; refused(bench.ask(2, 1)), None);
     assert_eq!(rt; refused(bench.pool.deliver_up(2)), None);

@@ -1,10 +1,13 @@
-use crate::bench::{Bench, key, refused};
+use crate::bench::{Bench, key, opened, refused};
+use keys::register::Register;
 use std::test::Fail;
 
 #[test]
 fn numbers_end(rt: HostRuntime) -> Result<(), Fail> {
     let mut row = [key(0); 2];
-    let mut bench = Bench::loaded(&mut row, 4_294_967_295)?;
+    let mut register = Register::new(&mut row);
+    let pool = opened(&mut register, 4_294_967_295)?;
+    let mut bench = Bench { pool, register };
     let report = bench.ask(0, 0)?;
     assert_eq!(rt; report.number, Some(4_294_967_295));
     assert_eq!(rt; refused(bench.ask(0, 0)), Some(10));
@@ -15,7 +18,9 @@ fn numbers_end(rt: HostRuntime) -> Result<(), Fail> {
 #[test]
 fn a_full_up_lane(rt: HostRuntime) -> Result<(), Fail> {
     let mut row = [key(0); 32];
-    let mut bench = Bench::loaded(&mut row, 1)?;
+    let mut register = Register::new(&mut row);
+    let pool = opened(&mut register, 1)?;
+    let mut bench = Bench { pool, register };
     bench.ask_the_owner();
     bench.fill_up_lane(0);
     assert_eq!(rt; refused(bench.ask(0, 1)), Some(11));
@@ -27,7 +32,9 @@ fn a_full_up_lane(rt: HostRuntime) -> Result<(), Fail> {
 #[test]
 fn a_let_go_needs_room(rt: HostRuntime) -> Result<(), Fail> {
     let mut row = [key(0); 32];
-    let mut bench = Bench::loaded(&mut row, 1)?;
+    let mut register = Register::new(&mut row);
+    let pool = opened(&mut register, 1)?;
+    let mut bench = Bench { pool, register };
     bench.ask_the_owner();
     assert_eq!(rt; refused(bench.pool.deliver_down(0)), None);
     bench.fill_up_lane(0);
@@ -38,7 +45,9 @@ fn a_let_go_needs_room(rt: HostRuntime) -> Result<(), Fail> {
 #[test]
 fn a_full_down_lane(rt: HostRuntime) -> Result<(), Fail> {
     let mut row = [key(0); 32];
-    let mut bench = Bench::loaded(&mut row, 1)?;
+    let mut register = Register::new(&mut row);
+    let pool = opened(&mut register, 1)?;
+    let mut bench = Bench { pool, register };
     bench.ask_the_owner();
     assert_eq!(rt; refused(bench.pool.deliver_down(0)), None);
     bench.fill_down_lane(1);

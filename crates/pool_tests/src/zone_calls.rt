@@ -1,11 +1,14 @@
-use crate::bench::{Bench, key, refused};
+use crate::bench::{Bench, key, opened, refused};
+use keys::register::Register;
 use rules::board::PauseBoard;
 use std::test::Fail;
 
 #[test]
 fn starts_refused(rt: HostRuntime) -> Result<(), Fail> {
     let mut row = [key(0); 2];
-    let mut bench = Bench::loaded(&mut row, 1)?;
+    let mut register = Register::new(&mut row);
+    let pool = opened(&mut register, 1)?;
+    let mut bench = Bench { pool, register };
     let mut board = PauseBoard::new();
     board.mark(2, true);
     assert_eq!(rt; refused(bench.ask_under(&board, 4, 1)), Some(6));
@@ -20,7 +23,9 @@ fn starts_refused(rt: HostRuntime) -> Result<(), Fail> {
 #[test]
 fn let_gos_refused(rt: HostRuntime) -> Result<(), Fail> {
     let mut row = [key(0); 2];
-    let mut bench = Bench::loaded(&mut row, 1)?;
+    let mut register = Register::new(&mut row);
+    let pool = opened(&mut register, 1)?;
+    let mut bench = Bench { pool, register };
     assert_eq!(rt; refused(bench.let_go(4, 0)), Some(6));
     assert_eq!(rt; refused(bench.let_go(0, 9)), Some(13));
     assert_eq!(rt; refused(bench.let_go(0, 0)), Some(12));
@@ -30,7 +35,9 @@ fn let_gos_refused(rt: HostRuntime) -> Result<(), Fail> {
 #[test]
 fn a_shared_copy_is_let_go(rt: HostRuntime) -> Result<(), Fail> {
     let mut row = [key(0); 2];
-    let mut bench = Bench::loaded(&mut row, 1)?;
+    let mut register = Register::new(&mut row);
+    let pool = opened(&mut register, 1)?;
+    let mut bench = Bench { pool, register };
     bench.ask_the_owner();
     assert_eq!(rt; refused(bench.pool.deliver_down(0)), None);
     assert_eq!(rt; refused(bench.let_go(0, 0)), None);
