@@ -1,9 +1,9 @@
 -- The promises on places, proved for every list of keys and every meaning.
-use Rattle.std.proofs.Common.{◌≡◌, ℕ, ◌+◌, ◌<◌, ◌≤◌, Bool, true, false, cond, ltb, List, [], ◌∷◌, ◌++◌, map, length, get_or, take, set, Some, None, Option, sym, refl, ap, ◌∙◌, ⊎_elim, arith}
+use Rattle.std.proofs.Common.{◌≡◌, ℕ, ◌+◌, ◌<◌, ◌≤◌, Bool, true, false, cond, ltb, List, [], ◌∷◌, ◌++◌, map, length, get_or, take, set, Some, None, Option, sym, refl, ap, subst, ◌∙◌, ⊎_elim, arith}
 use Rattle.std.proofs.lemmas.Slice.Eq.{bytes_eq-Decides}
 use Rattle.std.proofs.lemmas.Bool.Decides.{not_from_Decides}
 use Rattle.std.proofs.lemmas.Bool.{cases_lt, cond_both, cond_below}
-use Rattle.std.proofs.lemmas.List.{get_or-map, length_push, length-map, map_push, get_or_push, get_or_append_left, take_more_set}
+use Rattle.std.proofs.lemmas.List.{get_or-map, length_push, length-map, map_push, get_or_push, get_or_append_left, take_more_set, take-set}
 use Rattle.std.proofs.lemmas.List.Quantifiers.{position-Some}
 use Rattle.std.proofs.lemmas.List.Sums.{fails_before_first}
 use Rattle.std.proofs.lemmas.Option.{none-some}
@@ -103,9 +103,17 @@ module _ {K : Type 0} (m : K → List ℕ) where
   pub stays_apart : (ks : List K) (size : ℕ) (new : K) → Apart m ks → Apart m (keys_after m ks size new)
   stays_apart ks size new apart = after m new (Apart m) ks size apart (apart_push ks new apart)
 
-  -- with a new key written behind the keys in use, these stay apart, and each keeps its place
-  pub apart_more : (row : List K) (used : ℕ) (new : K) → used < length row → None ≡ place_of m (take used row) new → Apart m (take used row) → Apart m (take (used + 1) (set row used new))
-  apart_more row used new h none apart = rw (take_more_set row used new h) (apart_push (take used row) new apart (sym none))
+  -- with a new key written behind the keys in use, these stay apart, with the new one and without it
+  pub apart_behind : (row : List K) (used n : ℕ) (new : K) → used ≤ n → n ≤ used + 1 → used < length row → None ≡ place_of m (take used row) new → Apart m (take used row) → Apart m (take n (set row used new))
+  apart_behind row used n new low high h none apart = ⊎_elim
+      (λ (more : used < n).
+      let is : used + 1 ≡ n = omega arith in
+      let pushed = sym (take_more_set row used new h) ∙ ap (λ (k : ℕ). take k (set row used new)) is in
+      subst (Apart m) pushed (apart_push (take used row) new apart (sym none)))
+      (λ (same : n ≤ used).
+      let is : used ≡ n = omega arith in
+      subst (Apart m) (sym (take-set row used new) ∙ ap (λ (k : ℕ). take k (set row used new)) is) apart)
+      (cases_lt used n)
 
   pub stay_more : (row : List K) (used : ℕ) (new : K) → used < length row → PlacesStay m (take used row) (take (used + 1) (set row used new))
   unfolding PlacesStay
@@ -120,4 +128,4 @@ module _ {K : Type 0} (m : K → List ℕ) where
   apart_none i j hi hj e = omega arith
 
 -- what `Register::add` promises beside its place and its keys
-pub ruleset adding = (same_place_same_meaning, own_places, stay_more, stay_same, apart_more)
+pub ruleset adding = (same_place_same_meaning, own_places, stay_more, stay_same)
