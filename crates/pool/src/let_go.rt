@@ -14,7 +14,6 @@ use crate::line_changes::LineChange;
 use crate::line_steps::{LettingGo, LineStep};
 use crate::naming::{place_named, zone_named};
 use crate::opened::Opened;
-use crate::reports::silent;
 use calls::faults::Fault;
 use calls::reports::Report;
 use keys::key::Key;
@@ -41,7 +40,7 @@ impl<T: Transport> Opened<T> {
             sent: effect.sent,
             next: self.next,
             counts: None,
-            report: silent(),
+            report: Report::default(),
         })
     }
 

@@ -15,7 +15,6 @@ use keys::register::Register;
 use line::lines::Line;
 use messages::assignments::Assignment;
 use messages::kinds::Message;
-use rules::hits::hit_share;
 use transport::interface::Transport;
 use transport::lanes::Lane;
 
@@ -98,8 +97,7 @@ impl<T: Transport> Opened<T> {
     pub fn hit_share(&self, zone: u8) -> Option<u64>
         ensures { result ≡ zone_share (model_of T.Transport self.now) zone }
     {
-        self.counts(zone)
-            .and_then(|counts| hit_share(counts.hits, counts.starts))
+        self.counts(zone).and_then(Counts::hit_share)
     }
 
     // The oldest message that waits in a lane.

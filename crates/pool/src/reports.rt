@@ -1,21 +1,10 @@
 // The reports of calls.
 ghost use Rattle.std.specs.Prelude.{◌≡◌};
-ghost use Rattle.calls.specs.Zones.{silent, start_report, down_report};
+ghost use Rattle.calls.specs.Zones.{start_report, down_report};
 ghost use Rattle.calls.specs.Directories.{settled_report};
 
 use calls::reports::{Answered, Report};
 use messages::requests::Answer;
-
-// A report of nothing.
-pub(crate) fn silent() -> Report
-    ensures { result ≡ silent }
-{
-    Report {
-        number: None,
-        settled: None,
-        answered: None,
-    }
-}
 
 // A request answered in its own start is settled there.
 pub(crate) fn start_report(number: u32, answer: Option<Answer>) -> Report
@@ -34,7 +23,7 @@ pub(crate) fn down_report(number: u32, answer: Option<Answer>) -> Report
 {
     Report {
         answered: answer.map(|answer| Answered { number, answer }),
-        ..silent()
+        ..Report::default()
     }
 }
 
@@ -44,6 +33,6 @@ pub(crate) fn settled_report(settled: Option<u32>) -> Report
 {
     Report {
         settled,
-        ..silent()
+        ..Report::default()
     }
 }

@@ -6,7 +6,7 @@ ghost use Rattle.line.specs.Requested.{requested};
 ghost use Rattle.calls.specs.Faults.{seen};
 ghost use Rattle.calls.specs.Model.{state_at};
 ghost use Rattle.calls.specs.Outcomes.{done};
-ghost use Rattle.calls.specs.Zones.{one_more, start_counts, start_by, start_in, start_call};
+ghost use Rattle.calls.specs.Zones.{start_by, start_in, start_call};
 ghost use Rattle.pool.specs.Pools.{model_of};
 ghost use Rattle.pool.specs.Changes.{line_done, LineReady};
 
@@ -17,35 +17,14 @@ use crate::opened::Opened;
 use crate::reports::start_report;
 use calls::faults::Fault;
 use calls::reports::Report;
-use calls::slots::Counts;
 use keys::key::Key;
 use keys::register::Register;
 use messages::refusals::Refusal;
-use messages::requests::{Answer, Request};
+use messages::requests::Request;
 use rules::board::PauseBoard;
 use rules::plan::places::Place;
 use rules::plan::zones::Zone;
 use transport::interface::Transport;
-
-fn one_more(count: u32) -> u32
-    ensures { result ≡ one_more count }
-{
-    count.saturating_add(1)
-}
-
-fn start_counts(counts: Counts, answer: Option<Answer>) -> Counts
-    ensures { result ≡ start_counts counts answer }
-{
-    let hits = if answer.is_some() {
-        one_more(counts.hits)
-    } else {
-        counts.hits
-    };
-    Counts {
-        hits,
-        starts: one_more(counts.starts),
-    }
-}
 
 impl<T: Transport> Opened<T> {
     // Refusals 9, 10 and 11, or the change.
@@ -72,7 +51,7 @@ impl<T: Transport> Opened<T> {
             delivered: None,
             sent: effect.sent,
             next: u64::from(number) + 1,
-            counts: Some(start_counts(self.tables.counts(zone), effect.answer)),
+            counts: Some(self.tables.counts(zone).with_start(effect.answer)),
             report: start_report(number, effect.answer),
         })
     }
