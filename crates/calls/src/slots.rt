@@ -6,7 +6,7 @@ use line::lines::Line;
 use messages::requests::Answer;
 use rules::hits::hit_share;
 
-// A zone's line for one place, and the number of its last request.
+// A zone's line for one place, and the number of its last request. Before the first it is 0 and no Option: only the number of a line that waits is ever read.
 #[derive(Clone, Copy)]
 pub struct Slot {
     pub line: Line,

@@ -14,6 +14,7 @@ use std::test::Fail;
 use transport::interface::Transport;
 use transport::rings::Rings;
 
+// Each test opens its pool and then makes the bench: a function that made both would hand out a Result of a struct with a lent row, which has no proof yet.
 #[derive(Drop)]
 pub(crate) struct Bench<'a, T> {
     pub(crate) pool: Opened<T>,

@@ -30,15 +30,17 @@ pub(crate) enum Fault {
     RunsDiffer,
     #[error("out of memory")]
     Memory(#[from(alloc)] AllocError),
+    #[error("out of memory for the results of a run")]
+    ResultsUnreserved,
     #[error("what is printed could not be written: {0}")]
     Output(#[from] io::Error),
 }
 
-// By hand, as it has two variants that become two.
+// Written out: the derive makes one variant of one type, and here each of two variants becomes one.
 impl From<RunFault> for Fault {
     fn from(fault: RunFault) -> Fault {
         match fault {
-            RunFault::Memory => Fault::Memory(AllocError),
+            RunFault::Memory => Fault::ResultsUnreserved,
             RunFault::Pool(fault) => Fault::Load(fault),
         }
     }

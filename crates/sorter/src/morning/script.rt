@@ -21,7 +21,7 @@ pub(crate) const PLACES: usize = 4;
 // The result of a call.
 pub(crate) type Outcome = Result<Report, PoolFault>;
 
-// A request, an assignment being written as chute and wave.
+// A request, an assignment being written as chute and wave: the table is a constant, and a constant cannot call the check that makes an assignment.
 #[derive(Clone, Copy)]
 pub(crate) enum Wish {
     CarbonCopy,
