@@ -14,6 +14,7 @@ fn find_in<K: Key>(keys: &[K], key: &K) -> Option<usize>
 }
 
 // The first `used` keys of the row are in use, each at its place, and no two of them mean the same.
+// A slice that the caller lends with a count beside it: the library has no heap.
 #[derive(Drop)]
 pub struct Register<'a, K: Key> {
     row: &'a mut [K],

@@ -73,7 +73,7 @@ impl<T: Transport + Drop> Loading<T> {
         Ok(())
     }
 
-    // The loads of a stock one after the other.
+    // The loads of a stock one after the other. A function of its own: what proves its loop names the calls in it.
     fn load_each<K: Key + Copy>(
         &mut self,
         register: &mut Register<'_, K>,
