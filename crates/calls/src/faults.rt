@@ -21,6 +21,7 @@ pub enum Fault {
     Transport(TransportFault),
 }
 
+// Written out: which case it makes is stated, and the derive of such impls states nothing.
 impl From<TransportFault> for Fault {
     ghost from_gives = { λ f r. r ≡ fault.Transport f };
 

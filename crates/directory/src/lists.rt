@@ -12,7 +12,7 @@ pub struct ShortList<T> {
     ghost fits: { used ≤ 8 },
 }
 
-// Written out, since no derive takes a struct with a ghost field.
+// Written out: of a struct with a ghost field that holds items of any type, `Clone` cannot be derived.
 impl<T: Copy> Clone for ShortList<T> {
     ghost is_clone = { λ list copy. copy ≡ list };
 

@@ -27,8 +27,8 @@ pub struct Waiting {
 pub struct Served {
     pub(crate) zone: u8,
     demand: Demand,
-    // at the take-up: whether the zone was listed, and who was the owner. A number and no Option, since it is only
-    // ever compared with listed zones; where nobody is listed it is 0
+    // at the take-up: whether the zone was listed, and who was the owner: 0 where nobody is listed, which is never read, since it is only
+    // compared with listed zones. An Option would bring a third case into every rule that speaks of the owner, and no listed zone meets it
     was_listed: bool,
     owner: u8,
     // what has come: data, and the owner's purged message

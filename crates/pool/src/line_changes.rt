@@ -22,7 +22,7 @@ use transport::interface::Transport;
 use transport::lanes::{Lane, LaneSet};
 use transport::sending::admit;
 
-// A step of one zone's line, and all that goes with it.
+// A step of one zone's line, and all that goes with it. That there is room for what it sends (`LineReady`) is not in the type: it speaks of the transport, which no change holds.
 pub struct LineChange<S> {
     pub(crate) zone: Zone,
     pub(crate) place: Place,
@@ -36,6 +36,15 @@ pub struct LineChange<S> {
     pub(crate) report: Report,
 }
 
+// Takes the delivered message off its lane.
+pub(crate) fn take_delivered<T: Transport>(transport: &mut T, delivered: Option<Lane>)
+    ensures { T.waiting transport.new ≡ after_take (T.waiting transport.old) delivered }
+{
+    if let Some(lane) = delivered {
+        let _ = transport.take(lane);
+    }
+}
+
 // Takes a delivered message, and sends up what there is room for.
 fn carry_up<T: Transport>(
     transport: &mut T,
@@ -47,9 +56,7 @@ fn carry_up<T: Transport>(
     requires { up_admits T.room (T.waiting transport.old) zone sent ≡ true }
     ensures { T.waiting transport.new ≡ sent_up (after_take (T.waiting transport.old) delivered) zone place sent }
 {
-    if let Some(lane) = delivered {
-        let _ = transport.take(lane);
-    }
+    take_delivered(transport, delivered);
     if let Some(up) = sent {
         let _ = transport.put(
             Lane::Up(zone.number()),

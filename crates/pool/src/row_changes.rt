@@ -7,6 +7,7 @@ ghost use Rattle.calls.specs.Sending.{sends_any, sent_down, down_admits};
 ghost use Rattle.pool.specs.Pools.{model_of};
 ghost use Rattle.pool.specs.Changes.{after_take, row_changed, row_done, RowReady};
 
+use crate::line_changes::take_delivered;
 use crate::opened::Opened;
 use crate::reports::settled_report;
 use calls::faults::Fault;
@@ -20,7 +21,7 @@ use transport::interface::Transport;
 use transport::lanes::{Lane, LaneSet};
 use transport::sending::{admit, send_all};
 
-// The record of one place after its step, and all that goes with it.
+// The record of one place after its step, and all that goes with it. As with a line, that there is room (`RowReady`) speaks of the transport.
 pub struct RowChange {
     pub(crate) place: Place,
     pub(crate) kept: Record,
@@ -46,9 +47,7 @@ fn carry_down<T: Transport>(
     requires { down_admits T.room (T.waiting transport.old) outgoing.to ≡ true }
     ensures { T.waiting transport.new ≡ sent_down (after_take (T.waiting transport.old) delivered) place outgoing.to }
 {
-    if let Some(lane) = delivered {
-        let _ = transport.take(lane);
-    }
+    take_delivered(transport, delivered);
     if sends_any(outgoing) {
         let _ = send_all(
             transport,

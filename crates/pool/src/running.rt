@@ -22,6 +22,7 @@ pub enum RunFault {
     Pool(Fault),
 }
 
+// Both written out: which case they make is stated, and the derive of such impls states nothing.
 impl From<AllocError> for RunFault {
     ghost from_gives = { λ _ r. r ≡ Memory };
 
@@ -38,7 +39,7 @@ impl From<Fault> for RunFault {
     }
 }
 
-// The stock and then the calls, each result into the row that is reserved for them.
+// The stock and then the calls, each result into the row that is reserved for them. Apart from `run`, which finds the memory first.
 fn run_into<T: Transport + Drop, K: Key + Copy>(
     plan: Plan,
     transport: T,

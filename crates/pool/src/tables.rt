@@ -8,7 +8,8 @@ use directory::rows::Row;
 pub(crate) mod steps;
 
 // The lines of eight zones for 32 places each, the directory's row for each place, and the counts of each zone.
-// A row is as its record left it, so that the check of a row never fails. Arrays: there is no heap, and no call copies a table.
+// A row is as its record left it, so that the check of a row never fails: rows and no records, since a record is made of its row after a check.
+// Arrays: there is no heap, and no call copies a table.
 #[derive(Drop)]
 pub struct Tables {
     pub(crate) slots: [Slot; 256],

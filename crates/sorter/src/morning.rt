@@ -76,7 +76,7 @@ fn again(rt: &HostRuntime, day: &Day<GroupNumber>, first: &Watched) -> Result<()
 }
 
 impl<K: Key + Copy> Day<K> {
-    // A run over a backplane, under an onlooker's eyes. The blank key stands in free places. They stand on the heap, since a key of
+    // A run over a backplane, under an onlooker's eyes. The blank key stands in free places. The row stands on the heap, since a key of
     // any kind has no known size, and an array of keys might not fit.
     fn watched<T: Transport + Drop>(
         &self,

@@ -9,7 +9,7 @@ use Rattle.transport.specs.declared.ring.Ring.{Ring}
 use Rattle.transport.specs.declared.rings.RingBank.{RingBank}
 use Rattle.transport.specs.Lanes.{Lists, Marks, no_lane, only_lane, lane_at, joined_at, removed_at, all_empty}
 use Rattle.transport.specs.Ring.{ring_items, bank_lists}
-use Rattle.transport.specs.Room.{Holds, PartAdmitted, RestAdmitted, TakeAdmits, EmptyAdmits, every_below, lane_free, rings_room}
+use Rattle.transport.specs.Room.{Holds, PartAdmitted, RestAdmitted, TakeAdmits, EmptyAdmits, every_below, lane_free, ring_depth, rings_room}
 
 -- a lane of the set has room
 abbrev pub Free : ℕ → Lists → Marks → ℕ → Type 0
@@ -55,6 +55,9 @@ take_admits depth lists s i adm = (room_tells depth (removed_at lists i) s).1
 
 pub empty_admits : (depth : ℕ) → 0 < depth → EmptyAdmits (rings_room depth)
 empty_admits depth deep s long = (room_tells depth all_empty s).1 (λ k l h. let e = get_or-replicate {A = List Message} 16 k [] [] l in rw e deep)
+
+pub ring_deep : 0 < ring_depth
+ring_deep = omega arith
 
 -- one lane alone
 pub only_tells : (depth : ℕ) (lists : Lists) (i : ℕ) → i < 16 → rings_room depth lists (only_lane i) ≡ nat_lt (length (lane_at lists i)) depth

@@ -48,10 +48,10 @@ impl<T: Transport + Drop> Loading<T> {
             Refusal::NoPlace,
             zone.number(),
         ))?;
-        match self.tables.record(place).owner() {
-            Some(_) => Err(Fault::at_zone(Refusal::AlreadyLoaded, zone.number())),
-            None => Ok(place),
+        if self.tables.record(place).owner().is_some() {
+            return Err(Fault::at_zone(Refusal::AlreadyLoaded, zone.number()));
         }
+        Ok(place)
     }
 
     // Puts an assignment at a zone. A new key enters the register only with an accepted load.
@@ -73,7 +73,7 @@ impl<T: Transport + Drop> Loading<T> {
         Ok(())
     }
 
-    // The loads of a stock one after the other. A function of its own: what proves its loop names the calls in it.
+    // The loads of a stock one after the other. Apart from `load_all`, so that a wrong body there is refused for what it promises: the proof of this loop names the call in it.
     fn load_each<K: Key + Copy>(
         &mut self,
         register: &mut Register<'_, K>,

@@ -63,11 +63,10 @@ impl Tables {
         ensures rows { map view_of result.rows ≡ replicate 32 fresh_row }
         ensures counts { result.counts ≡ replicate 8 no_counts }
     {
-        let counts = Counts { hits: 0, starts: 0 };
         Tables {
             slots: [blank_slot(); 256],
             rows: [fresh_row(); 32],
-            counts: [counts; 8],
+            counts: [Counts::default(); 8],
         }
     }
 
@@ -116,7 +115,7 @@ impl Tables {
         self.counts[usize::from(zone.number())] = counts;
     }
 
-    // The number of the last request of a zone for a place; 0 for a zone above 7, which has none.
+    // The number of the last request of a zone for a place. A step of the directory names the zone by its number, which its record keeps below 8, so the 0 is never told.
     pub(crate) fn number(&self, zone: u8, place: Place) -> u32
         ensures { result ≡ (slice_index_or self.now.slots (zone * 32 + place) blank_slot).number }
     {

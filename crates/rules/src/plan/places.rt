@@ -48,10 +48,9 @@ impl Plan {
     pub fn place(self, number: usize) -> Option<Place>
         ensures { result ≡ place_in self number }
     {
-        if number < usize::from(self.places()) {
-            Some(Place {
-                number: number as u8,
-            })
+        let number = u8::try_from(number).ok()?;
+        if number < self.places() {
+            Some(Place { number })
         } else {
             None
         }

@@ -1,4 +1,4 @@
-// The belt: all lanes share one store.
+// The belt: all lanes share one array.
 ghost use Rattle.std.specs.Prelude.{◌≡◌, ℕ, ◌<◌, ◌≤◌, length, slice_index_or};
 ghost use Rattle.transport.specs.declared.entry.Entry.{Entry};
 ghost use Rattle.transport.specs.Room.{belt_size};

@@ -3,7 +3,7 @@ ghost use Rattle.std.specs.Prelude.{◌≡◌, ◌<◌, [], ◌∷◌, ◌++◌,
 ghost use Rattle.std.specs.List.{remove};
 ghost use Rattle.transport.specs.Lanes.{all_empty, oldest_of};
 ghost use Rattle.transport.specs.Belt.{held, of_lane, lane_of, belt_lists, entry_of};
-ghost use Rattle.transport.specs.Room.{belt_size, belt_room};
+ghost use Rattle.transport.specs.Room.{EmptyAdmits, belt_size, belt_room};
 ghost use Rattle.transport.specs.BeltLanes.{lanes_sixteen};
 ghost use Rattle.transport.specs.BeltRoom.{part_admitted, rest_admitted, take_admits, empty_admits};
 
@@ -17,9 +17,10 @@ use messages::kinds::Message;
 
 impl Belt {
     // All lanes empty.
-    #[tactic(auto, unfolding(crate::specs::Belt::lanes_of))]
+    #[tactic(auto, unfolding(crate::specs::Belt::lanes_of), using(crate::specs::BeltRoom::empty_admits))]
     pub fn new() -> Belt
-        ensures { belt_lists result ≡ all_empty }
+        ensures empty { belt_lists result ≡ all_empty }
+        ensures admits { EmptyAdmits belt_room }
     {
         Belt {
             entries: [Entry {

@@ -63,7 +63,7 @@ impl<const DEPTH: usize> Ring<DEPTH> {
     pub(crate) fn get(&self, ahead: usize) -> Option<Message>
         ensures { result ≡ oldest_of (drop ahead (ring_items self.now)) }
     {
-        // No `then`: its closure would need clauses of its own, for the bound of `slot`.
+        // No `then`: it was tried, and its closure would need clauses of its own, for the bound of `slot`.
         if ahead < self.len {
             Some(self.slots[self.slot(ahead)])
         } else {

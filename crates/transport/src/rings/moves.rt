@@ -2,7 +2,7 @@
 ghost use Rattle.std.specs.Prelude.{◌≡◌, ◌<◌};
 ghost use Rattle.transport.specs.Lanes.{all_empty};
 ghost use Rattle.transport.specs.Ring.{bank_lists};
-ghost use Rattle.transport.specs.Room.{rings_room, ring_depth};
+ghost use Rattle.transport.specs.Room.{EmptyAdmits, rings_room, ring_depth};
 ghost use Rattle.transport.specs.RingRoom.{bank_lanes, part_admitted, rest_admitted, take_admits, empty_admits};
 
 use super::{RING_DEPTH, RingBank, Rings};
@@ -14,9 +14,11 @@ use messages::kinds::Message;
 
 impl RingBank<RING_DEPTH> {
     // All lanes empty.
+    #[tactic(auto, using(crate::specs::RingRoom::empty_admits, crate::specs::RingRoom::ring_deep))]
     pub fn new() -> Rings
         ensures empty { bank_lists result ≡ all_empty }
         ensures rule { ⟦<Rings as Transport>⟧.room ≡ rings_room ring_depth }
+        ensures admits { EmptyAdmits (rings_room ring_depth) }
     {
         RingBank::empty()
     }
@@ -68,7 +70,7 @@ impl<const DEPTH: usize> Transport for RingBank<DEPTH> {
 
     #[tactic(auto, using(crate::specs::RingRoom::lane_read))]
     fn count(&self, lane: Lane) -> usize {
-        // No `map_or`: a closure over rings of any depth would need clauses of its own.
+        // No `map_or`: it was tried, and a closure over rings of any depth would need clauses of its own.
         match lane.number() {
             Some(i) => self.rings[i].count(),
             None => 0,
