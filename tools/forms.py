@@ -16,7 +16,7 @@ LINES = {
     'enum': r'^[ \t]*(pub(\(crate\))? )?enum \w+',
     'number': r'^[ \t]*(pub(\(crate\))? )?fn (number|refused|load_number|reason)\b',
     'rebuilt': r'None => (None|return|Ok)|^\s*Some\(\w+\) => (Some|Ok)\(|\{ None \}|else \{\s*$(?=\n\s*None\n)',
-    'sentinel': r'unwrap_or\(0\)|None => 0,|number: 0,',
+    'sentinel': r'unwrap_or\(0\)|None => 0,|map_or\(0,|number: 0,',
     # 3: loops that count, and loops that walk a list by taking its first off
     'counted': r'^[ \t]*for \w+ in [^{]*\.\.',
     'taken_off': r'^[ \t]*while ',
@@ -25,7 +25,7 @@ LINES = {
     'word_table': r"fn \w+\([^)]*\) -> (&'static str|Words|\(&'static str, u8\))",
     'number_table': r'=> [0-9]+,$',
     'same': r'^[ \t]*fn same\(',
-    # 5: what a private function asks of its caller
+    # 5: what a function asks of its caller
     'requires': r'^[ \t]*requires\b',
     'row_and_used': r'\brow: &(mut )?\[K\], used',
     # 6: arrays, and a count beside one
