@@ -5,13 +5,25 @@ ghost use Rattle.calls.specs.declared.faults.Fault.TheVariants as fault;
 ghost use Rattle.calls.specs.Faults.{refusal_of, facts_of, about_zone, about_place, about_nothing};
 
 use messages::refusals::{Layer, Refusal};
+use std::fmt;
 use transport::faults::{Subject, TransportFault};
 
 // A refusal of the pool itself, and what it names: a call without a zone whose key has no place names nothing.
-#[derive(Clone, Copy, PartialEq, Eq, Debug)]
+#[derive(Clone, Copy, PartialEq, Eq)]
 pub struct PoolFault {
     refusal: Refusal,
     subject: Option<Subject>,
+}
+
+// Written out: a fault tells its zone and its place each by itself, and so it prints them.
+impl fmt::Debug for PoolFault {
+    fn fmt<W: fmt::Write>(&self, f: &mut fmt::Formatter<W>) -> fmt::Result {
+        f.debug_struct("PoolFault")
+            .field("refusal", &self.refusal)
+            .field("zone", &self.subject.and_then(Subject::zone))
+            .field("place", &self.subject.and_then(Subject::place))
+            .finish()
+    }
 }
 
 // Why a call was refused: by the pool itself, or by its transport.

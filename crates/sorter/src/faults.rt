@@ -3,7 +3,7 @@ use crate::morning::Objection;
 use calls::faults::Fault as PoolFault;
 use messages::refusals::Refusal;
 use pool::running::RunFault;
-use std::alloc::AllocError;
+use std::alloc::{AllocError, AllocFailed};
 use std::io;
 use thiserror::Error;
 use transport::faults::TransportFault;
@@ -29,19 +29,29 @@ pub(crate) enum Fault {
     #[error("the runs of the morning differ")]
     RunsDiffer,
     #[error("out of memory")]
-    Memory(#[from(alloc)] AllocError),
-    #[error("out of memory for the results of a run")]
-    ResultsUnreserved,
+    Memory,
     #[error("what is printed could not be written: {0}")]
     Output(#[from] io::Error),
 }
 
-// Written out: the derive makes one variant of one type, and here each of two variants becomes one.
+// The three below are written out: the derive makes one variant of one type, and would keep the allocator's error in what is printed.
 impl From<RunFault> for Fault {
     fn from(fault: RunFault) -> Fault {
         match fault {
-            RunFault::Memory => Fault::ResultsUnreserved,
+            RunFault::Memory => Fault::Memory,
             RunFault::Pool(fault) => Fault::Load(fault),
         }
+    }
+}
+
+impl From<AllocError> for Fault {
+    fn from(_error: AllocError) -> Fault {
+        Fault::Memory
+    }
+}
+
+impl<T: Drop> From<AllocFailed<T>> for Fault {
+    fn from(_failed: AllocFailed<T>) -> Fault {
+        Fault::Memory
     }
 }

@@ -29,7 +29,9 @@ struct Watched {
 pub(crate) fn report(rt: &HostRuntime) -> Result<(), Fault> {
     let heap = rt.alloc();
     let script = script::morning(heap)?;
-    let first = script.day.watched(Rings::new(), GroupNumber::new(0), heap)?;
+    let first = script
+        .day
+        .watched(Rings::new(), &mut [GroupNumber::new(0); PLACES], heap)?;
     tell_first(rt, &script, &first)?;
     again(rt, &script.day, &first)?;
     println!(rt; "== all four runs agreed")?;
@@ -54,45 +56,34 @@ fn tell_first(rt: &HostRuntime, script: &Script, first: &Watched) -> Result<(), 
 // The same morning over the other backplane, and with the other kind of key.
 fn again(rt: &HostRuntime, day: &Day<GroupNumber>, first: &Watched) -> Result<(), Fault> {
     let heap = rt.alloc();
-    let group = GroupNumber::new(0);
     let tagged = tags::tagged(day, heap)?;
-    let tag = CageTag::new(0, 0, 0);
     println!(rt; "-- the same morning again")?;
     first.agrees(
         rt,
         "the belt, with group numbers",
-        &day.watched(Belt::new(), group, heap)?,
+        &day.watched(Belt::new(), &mut [GroupNumber::new(0); PLACES], heap)?,
     )?;
     first.agrees(
         rt,
         "the rings, with cage tags",
-        &tagged.watched(Rings::new(), tag, heap)?,
+        &tagged.watched(Rings::new(), &mut [CageTag::new(0, 0, 0); PLACES], heap)?,
     )?;
     first.agrees(
         rt,
         "the belt, with cage tags",
-        &tagged.watched(Belt::new(), tag, heap)?,
+        &tagged.watched(Belt::new(), &mut [CageTag::new(0, 0, 0); PLACES], heap)?,
     )
 }
 
 impl<K: Key + Copy> Day<K> {
-    // A run over a backplane, under an onlooker's eyes. The blank key stands in free places. The row stands on the heap, since a key of
-    // any kind has no known size, and an array of keys might not fit.
+    // A run over a backplane and a lent row, under an onlooker's eyes.
     fn watched<T: Transport + Drop>(
         &self,
         transport: T,
-        blank: K,
+        row: &mut [K],
         heap: Global,
     ) -> Result<Watched, Fault> {
-        let mut row = vec![in heap; blank; PLACES]?;
-        let results = run(
-            self.plan,
-            transport,
-            &mut row,
-            &self.stock,
-            &self.calls,
-            heap,
-        )?;
+        let results = run(self.plan, transport, row, &self.stock, &self.calls, heap)?;
         let seen = watch(self, &results, heap)?;
         Ok(Watched { results, seen })
     }

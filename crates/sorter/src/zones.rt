@@ -1,4 +1,6 @@
 // The three zones: each has a line for the one key, and counts its starts.
+ghost use Rattle.std.specs.Prelude.{◌≡◌, ◌<◌, ◌≤◌, Ok, Err};
+
 use calls::slots::Counts;
 use line::lines::Line;
 use line::states::Effect;
@@ -37,10 +39,22 @@ impl Zones {
     }
 
     pub(crate) fn at(&mut self, zone: u8) -> Result<&mut Zone, Refusal> {
-        self.row.get_mut(zone as usize).ok_or(Refusal::NoSuchZone)
+        Ok(&mut self.row[index(zone)?])
     }
 
     pub(crate) fn counts(&self) -> [Counts; ZONES] {
         self.row.map(|zone| zone.counts)
+    }
+}
+
+// A zone's place in the row.
+fn index(zone: u8) -> Result<usize, Refusal>
+    ensures { elim result [ Ok at ↦ (at ≡ zone) × (at < 3) | Err e ↦ 3 ≤ zone ] }
+{
+    let at = zone as usize;
+    if at < ZONES {
+        Ok(at)
+    } else {
+        Err(Refusal::NoSuchZone)
     }
 }

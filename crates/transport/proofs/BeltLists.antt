@@ -2,7 +2,7 @@
 use Rattle.std.proofs.Common.{◌≡◌, ℕ, zero, suc, ◌+◌, ◌-◌, ◌<◌, ◌≤◌, Bool, cond, ltb, ◌≢◌, List, [], ◌∷◌, ◌++◌, map, length, get_or, take, drop, set, filter, Some, None, sym, refl, ap, ◌∙◌, subst, ⊎_elim, add-one, arith}
 use borrow.Rule.Slice.PartMut.{put_mid}
 use Rattle.std.specs.List.{range_with_len, remove, AllByRecursion, sum_by, count_by, position, position_or_len}
-use Rattle.std.proofs.lemmas.List.{same_lists, append-nil, append_assoc, map-append, length-map, length-set, length-take, length-take-le, length-drop, length-append, get_or-set_same, get_or-set_other, take-append-drop, take-take, take_at, drop_more, drop-drop, set-get_or, get_or-take}
+use Rattle.std.proofs.lemmas.List.{same_lists, append-nil, append_assoc, map-append, length-map, length-set, length-take, length-take-le, length-drop, length-append, get_or-set_same, get_or-set_other, take-append-drop, take-take, take_at, drop_more, drop_all, drop-drop, set-get_or, get_or-take}
 use Rattle.std.proofs.lemmas.List.FromFn.{length-map-range_with_len, get_or-map-range_with_len, sum_by-map-range_with_len_more}
 use Rattle.std.proofs.lemmas.List.Elements.{filter-append}
 use Rattle.std.proofs.lemmas.List.Quantifiers.{position-Some}
@@ -14,7 +14,7 @@ use Rattle.std.proofs.lemmas.Bool.Decides.{nat_tests}
 use Rattle.messages.specs.declared.kinds.Message.{Message}
 use Rattle.transport.specs.declared.entry.Entry.{Entry}
 use Rattle.transport.specs.declared.belt.Belt.{Belt}
-use Rattle.transport.specs.Lanes.{Lists, lane_at, joined_at, removed_at}
+use Rattle.transport.specs.Lanes.{Lists, lane_at, joined_at, removed_at, all_empty}
 use Rattle.transport.specs.Ring.{blank}
 use Rattle.transport.specs.Room.{waiting_in}
 use Rattle.transport.specs.Belt.{held, of_lane, entry_of, lane_of, lanes_of, belt_lists}
@@ -92,6 +92,14 @@ pub lane_none : (p : List Entry) (k : ℕ) → ((j : ℕ) (d : Entry) → j < le
 lane_none [] k h = refl
 lane_none (e ∷ p) k h = lane_cons_other e p k (h 0 e (omega arith)) ∙ lane_none p k (λ j d l. h (suc j) d (omega arith))
 
+-- the entries from place k on, and their messages of lane i
+module _ (es : List Entry) (i k : ℕ) (d : Entry) (within : k < length es) where
+  pub lane_here : (get_or es k d).lane ≡ i → lane_of (drop k es) i ≡ (get_or es k d).message ∷ lane_of (drop (k + 1) es) i
+  lane_here h = ap (λ (xs : List Entry). lane_of xs i) (drop_more es k d within) ∙ lane_cons_same (get_or es k d) (drop (k + 1) es) i h
+
+  pub lane_past : ((get_or es k d).lane ≢ i) → lane_of (drop k es) i ≡ lane_of (drop (k + 1) es) i
+  lane_past h = ap (λ (xs : List Entry). lane_of xs i) (drop_more es k d within) ∙ lane_cons_other (get_or es k d) (drop (k + 1) es) i h
+
 -- a push
 pub lists_pushed : (es : List Entry) (i : ℕ) (m : Message) → i < 16 → lanes_of (es ++ entry_of i m ∷ []) ≡ joined_at (lanes_of es) i m
 lists_pushed es i m small =
@@ -155,6 +163,33 @@ pub length_held : (belt : Belt) → length (held belt) ≡ belt.len
 length_held belt =
     let long = belt.long in
     length-take-le belt.len belt.entries (omega arith)
+
+-- the entries of a belt from place k on, and their messages of lane i
+module _ (belt : Belt) (i k : ℕ) (d : Entry) (within : k < belt.len) where
+  held_from : drop k (held belt) ≡ get_or belt.entries k d ∷ drop (k + 1) (held belt)
+  held_from =
+      let n = length_held belt in
+      drop_more (held belt) k d (omega arith) ∙ ap (λ (e : Entry). e ∷ drop (k + 1) (held belt)) (get_or-take belt.len belt.entries k d within)
+
+  pub lane_from_same : (get_or belt.entries k d).lane ≡ i → lane_of (drop k (held belt)) i ≡ (get_or belt.entries k d).message ∷ lane_of (drop (k + 1) (held belt)) i
+  lane_from_same h = ap (λ (es : List Entry). lane_of es i) held_from ∙ lane_cons_same (get_or belt.entries k d) (drop (k + 1) (held belt)) i h
+
+  pub lane_from_other : ((get_or belt.entries k d).lane ≢ i) → lane_of (drop k (held belt)) i ≡ lane_of (drop (k + 1) (held belt)) i
+  lane_from_other h = ap (λ (es : List Entry). lane_of es i) held_from ∙ lane_cons_other (get_or belt.entries k d) (drop (k + 1) (held belt)) i h
+
+pub lane_from_end : (belt : Belt) (i k : ℕ) → belt.len ≤ k → lane_of (drop k (held belt)) i ≡ []
+lane_from_end belt i k past =
+    let n = length_held belt in
+    ap (λ (es : List Entry). lane_of es i) (drop_all k (held belt) (omega arith))
+
+-- one of n messages to leave out is left out
+pub one_out : (n : ℕ) (m : Message) (ms : List Message) → (n ≢ 0) → drop (n - 1) ms ≡ drop n (m ∷ ms)
+one_out zero m ms some = absurd (some refl)
+one_out (suc n) m ms some = ap (λ (k : ℕ). drop k ms) (omega arith)
+
+pub lanes_none : lanes_of [] ≡ all_empty
+unfolding lanes_of
+lanes_none = refl
 
 pub waiting_held : (belt : Belt) → waiting_in (belt_lists belt) ≡ belt.len
 waiting_held belt =

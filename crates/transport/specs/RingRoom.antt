@@ -1,15 +1,15 @@
 -- The rule of the rings and its laws, at every depth.
-use Rattle.std.specs.Prelude.{◌≡◌, ℕ, ◌<◌, ◌≤◌, Bool, true, false, cond, List, [], ◌∷◌, ◌++◌, map, length, drop, set, Decides, nat_lt, slice_index_or, slice_set, refl}
+use Rattle.std.specs.Prelude.{◌≡◌, ℕ, zero, suc, ◌<◌, ◌≤◌, Bool, true, false, cond, List, [], ◌∷◌, ◌++◌, map, length, drop, set, Decides, nat_lt, slice_index_or, slice_set, refl}
 use Rattle.std.proofs.Common.{sym, ap, subst, ◌∙◌, ⊎_elim, arith}
 use Rattle.std.proofs.lemmas.List.{get_or-set_same, get_or-set_other, set_past, get_or_past, get_or-replicate, length-drop, length-replicate, length-map, get_or-map, map-set}
-use Rattle.std.proofs.lemmas.Bool.{cases_eq, cases_lt, false≢true, lt-ltb, le-ltb, ltb-true}
+use Rattle.std.proofs.lemmas.Bool.{cases_eq, cases_lt, cases_Bool, false≢true, lt-ltb, le-ltb, ltb-true}
 use Rattle.std.proofs.lemmas.Bool.Decides.{Decides-below_and, same_from_decides}
 use Rattle.messages.specs.declared.kinds.Message.{Message}
 use Rattle.transport.specs.declared.ring.Ring.{Ring}
 use Rattle.transport.specs.declared.rings.RingBank.{RingBank}
 use Rattle.transport.specs.Lanes.{Lists, Marks, no_lane, only_lane, lane_at, joined_at, removed_at, all_empty}
 use Rattle.transport.specs.Ring.{ring_items, bank_lists}
-use Rattle.transport.specs.Room.{Holds, PartAdmitted, RestAdmitted, TakeAdmits, EmptyAdmits, every_below, lane_free, ring_depth, rings_room}
+use Rattle.transport.specs.Room.{Holds, PartAdmitted, RestAdmitted, TakeAdmits, EmptyAdmits, every_below, lane_free, ring_depth, made_depth, rings_room}
 
 -- a lane of the set has room
 abbrev pub Free : ℕ → Lists → Marks → ℕ → Type 0
@@ -56,6 +56,15 @@ take_admits depth lists s i adm = (room_tells depth (removed_at lists i) s).1
 pub empty_admits : (depth : ℕ) → 0 < depth → EmptyAdmits (rings_room depth)
 empty_admits depth deep s long = (room_tells depth all_empty s).1 (λ k l h. let e = get_or-replicate {A = List Message} 16 k [] [] l in rw e deep)
 
+pub made_deep : (depth : ℕ) → 0 < made_depth depth
+made_deep zero = omega arith
+made_deep (suc n) = omega arith
+
+-- a depth with a slot is as it is
+pub made_is : (depth : ℕ) → 0 < depth → made_depth depth ≡ depth
+made_is zero deep = absurd (omega arith)
+made_is (suc n) deep = refl
+
 pub ring_deep : 0 < ring_depth
 ring_deep = omega arith
 
@@ -91,3 +100,10 @@ module _ {depth : ℕ} (rings : List (Ring depth)) (i : ℕ) (was : Ring depth) 
 
 pub bank_lanes : {depth : ℕ} (bank : RingBank depth) → length (bank_lists bank) ≡ 16
 bank_lanes bank = length-map bank.rings ring_items ∙ bank.sixteen
+
+-- one lane of the set that is full
+pub one_full : (depth : ℕ) (lists : Lists) (s : Marks) (k : ℕ) → k < 16 → Holds s k → depth ≤ length (lane_at lists k) → false ≡ rings_room depth lists s
+one_full depth lists s k l h many = ⊎_elim
+    (λ (adm : rings_room depth lists s ≡ true). absurd (let few : length (lane_at lists k) < depth = (room_tells depth lists s).0 adm k l h in omega arith))
+    (λ (e : rings_room depth lists s ≡ false). sym e)
+    (cases_Bool (rings_room depth lists s))

@@ -44,6 +44,11 @@ every_below p (suc n) = p n && every_below p n
 abbrev pub lane_free : ℕ → Lists → Marks → ℕ → Bool
 lane_free depth lists s i = cond (slice_index_or s i false) (nat_lt (length (lane_at lists i)) depth) true
 
+-- the depth of rings that are made: as it is, for no ring is made without a slot
+abbrev pub made_depth : ℕ → ℕ
+made_depth zero = 1
+made_depth (suc n) = suc n
+
 -- rings of a depth admit a set when each of its lanes has fewer messages than that
 unfoldable pub rings_room : ℕ → Rule
 rings_room depth lists s = every_below (lane_free depth lists s) 16

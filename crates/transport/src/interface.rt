@@ -58,5 +58,5 @@ pub trait Transport {
     ghost fewer: { TakeAdmits room };
 
     // With all lanes empty every set is admitted.
-    ghost empty: { (t : Self) → EmptyAdmits room };
+    ghost empty: { EmptyAdmits room };
 }

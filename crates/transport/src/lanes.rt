@@ -77,7 +77,13 @@ impl LaneSet {
     pub(crate) fn size(self) -> usize
         ensures { (result ≡ set_size self.marks) × (result ≤ 16) }
     {
-        self.marks.iter().filter(|marked| **marked).count()
+        let mut size = 0;
+        for marked in &self.marks {
+            if *marked {
+                size += 1;
+            }
+        }
+        size
     }
 }
 

@@ -49,21 +49,29 @@ impl Belt {
     fn count_of(&self, lane: usize) -> usize
         ensures { result ≡ length (filter (of_lane lane) (held self.now)) }
     {
-        self.held()
-            .iter()
-            .filter(|entry| entry.lane == lane)
-            .count()
+        let mut count = 0;
+        for entry in self.held() {
+            if entry.lane == lane {
+                count += 1;
+            }
+        }
+        count
     }
 
     // The message of a lane that has `ahead` older ones before it.
     fn behind(&self, lane: usize, ahead: usize) -> Option<Message>
         ensures { result ≡ oldest_of (drop ahead (lane_of (held self.now) lane)) }
     {
-        self.held()
-            .iter()
-            .filter(|entry| entry.lane == lane)
-            .map(|entry| entry.message)
-            .nth(ahead)
+        let mut older = ahead;
+        for entry in self.held() {
+            if entry.lane == lane {
+                if older == 0 {
+                    return Some(entry.message);
+                }
+                older -= 1;
+            }
+        }
+        None
     }
 
     // One message more, on the lane of that number.
@@ -99,7 +107,7 @@ impl Transport for Belt {
 
     ghost fewer = { take_admits };
 
-    ghost empty = { λ _. empty_admits };
+    ghost empty = { empty_admits };
 
     fn put(&mut self, lane: Lane, message: Message) -> Result<(), TransportFault> {
         let i = lane
@@ -118,6 +126,13 @@ impl Transport for Belt {
         let message = self.entries[at].message;
         self.remove(at);
         Some(message)
+    }
+
+    // By its first message alone: the lane is not gone through to its end.
+    fn look(&self, lane: Lane) -> Option<Message> {
+        let i = lane.number()?;
+        let first = self.find(i)?;
+        Some(self.entries[first].message)
     }
 
     #[tactic(auto, using(crate::proofs::BeltLists::count_is))]

@@ -2,8 +2,8 @@
 ghost use Rattle.std.specs.Prelude.{◌≡◌, ◌<◌};
 ghost use Rattle.transport.specs.Lanes.{all_empty};
 ghost use Rattle.transport.specs.Ring.{bank_lists};
-ghost use Rattle.transport.specs.Room.{EmptyAdmits, rings_room, ring_depth};
-ghost use Rattle.transport.specs.RingRoom.{bank_lanes, part_admitted, rest_admitted, take_admits, empty_admits};
+ghost use Rattle.transport.specs.Room.{EmptyAdmits, made_depth, rings_room, ring_depth};
+ghost use Rattle.transport.specs.RingRoom.{bank_lanes, part_admitted, rest_admitted, take_admits, empty_admits, made_deep};
 
 use super::{RING_DEPTH, RingBank, Rings};
 use crate::faults::{Subject, TransportFault};
@@ -38,17 +38,18 @@ impl<const DEPTH: usize> RingBank<DEPTH> {
 impl<const DEPTH: usize> Transport for RingBank<DEPTH> {
     ghost waiting = { bank_lists };
 
-    ghost room = { rings_room DEPTH };
+    // Of rings that are made; of no depth none are, and the rule with its laws is that of depth 1.
+    ghost room = { rings_room (made_depth DEPTH) };
 
     ghost lanes = { bank_lanes };
 
-    ghost part = { part_admitted DEPTH };
+    ghost part = { part_admitted (made_depth DEPTH) };
 
-    ghost rest = { rest_admitted DEPTH };
+    ghost rest = { rest_admitted (made_depth DEPTH) };
 
-    ghost fewer = { take_admits DEPTH };
+    ghost fewer = { take_admits (made_depth DEPTH) };
 
-    ghost empty = { λ t. empty_admits DEPTH t.deep };
+    ghost empty = { empty_admits (made_depth DEPTH) (made_deep DEPTH) };
 
     fn put(&mut self, lane: Lane, message: Message) -> Result<(), TransportFault> {
         let i = lane
@@ -66,6 +67,11 @@ impl<const DEPTH: usize> Transport for RingBank<DEPTH> {
     fn take(&mut self, lane: Lane) -> Option<Message> {
         let i = lane.number()?;
         self.rings[i].pop()
+    }
+
+    fn look(&self, lane: Lane) -> Option<Message> {
+        let i = lane.number()?;
+        self.rings[i].get(0)
     }
 
     #[tactic(auto, using(crate::specs::RingRoom::lane_read))]

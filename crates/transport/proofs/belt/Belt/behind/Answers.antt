@@ -1,19 +1,22 @@
-use Rattle.std.proofs.Common.{◌≡◌, sym, ◌∙◌, rules}
-use borrow.Author.Tests.{tests}
-use Rattle.std.specs.List.{slice_get}
-use Rattle.std.proofs.lemmas.Iterator.{YieldsList-from_slice, YieldsList-from_map}
-use Rattle.std.proofs.lemmas.Iterator.Consumers.{nth_from_yields_List, YieldsList-at, YieldsList-from_filter}
-use Rattle.std.proofs.lemmas.Iterator.Adapters.{option_map_id}
-use Rattle.transport.specs.declared.entry.Entry.{Entry}
-use Rattle.transport.specs.Belt.{held, of_lane, lane_of}
-use Rattle.transport.proofs.Answered.{nth_is}
+use Rattle.std.proofs.Common.{ℕ, ◌+◌, List, drop, sym, ap, ◌∙◌}
+use Rattle.messages.specs.declared.kinds.Message.{Message}
+use Rattle.transport.specs.Ring.{blank}
+use Rattle.transport.specs.Belt.{lane_of, entry_of}
+use Rattle.transport.proofs.BeltLists.{lane_here, lane_past, one_out}
 use Rattle.transport.proofs.belt.Belt.behind.Goals as goal
+use Rattle.transport.proofs.belt.Belt.behind.Goals.{then-entry-lane+else-older-eq0, else-entry-lane}
 
-pub returns : goal.returns
-returns c =
-    let es = held c.args.self.now in
-    let found : c.nth.result ≡ slice_get (lane_of es c.args.lane) c.args.ahead = sym (option_map_id c.nth.result) ∙ nth_from_yields_List c.nth.result c.nth.new.self c.args.ahead c.nth.ensures.ran
-    (YieldsList-from_map _ (λ (e : Entry). e.message)
-    (YieldsList-at c.map.ensures.source (YieldsList-from_filter _ (of_lane c.args.lane) (YieldsList-at c.filter.ensures.source (YieldsList-from_slice es (cc))) c.filter.ensures.closure (λ x r q k. search (rules, tests))))
-    c.map.ensures.closure (λ x r q k. search (rules, tests))) in
-    found ∙ nth_is (lane_of es c.args.lane) c.args.ahead
+pub loop-entry-preserved : goal.loop-entry-preserved
+loop-entry-preserved c =
+    let es = c.held-entry-items.result.now in
+    let k = c.loop-entry.entry-index in
+    let next : List Message = lane_of (drop (k + 1) es) c.args.lane in
+    elim c.if-entry-lane.branch [
+      | then-entry-lane+else-older-eq0 w ↦
+          let from = lane_here es c.args.lane k (entry_of 0 blank) c.loop-entry-test.true w.if-entry-lane.true in
+          ap (λ (n : ℕ). drop n next) w.older-is ∙ one_out c.loop-entry.older _ next w.if-older-eq0.false
+          ∙ ap (λ (ms : List Message). drop c.loop-entry.older ms) (sym from) ∙ c.loop-entry.invariant
+      | else-entry-lane w ↦
+          let from = lane_past es c.args.lane k (entry_of 0 blank) c.loop-entry-test.true w.if-entry-lane.false in
+          ap (λ (n : ℕ). drop n next) w.older-is ∙ ap (λ (ms : List Message). drop c.loop-entry.older ms) (sym from) ∙ c.loop-entry.invariant
+    ]
